@@ -1,0 +1,1 @@
+// Only definitions and laws, which every crate cites: see specs/.

@@ -1,0 +1,4 @@
+pub mod Registers
+pub mod Modifiers
+pub mod Operands
+pub mod Refusals

@@ -1,0 +1,112 @@
+-- Document 01, "Refusal numbers", of the record: 6 and 7 said of a record, and 8.
+use Prim.Native.Nat.{ℕ}
+use mathlib.Core.Path.{_≡_}
+use mathlib.Core.Bool.{Bool, true, false, not, _&&_}
+use lib.Dec.{eqb}
+use Rattle.record.specs.declared.Condition.{Condition}
+use Rattle.record.specs.declared.Guard.{Guard}
+use Rattle.record.specs.declared.Guard.the-variants.{Always, When}
+use Rattle.record.specs.declared.Combination.{Combination}
+use Rattle.record.specs.declared.Combination.the-variants.{Alone, With}
+use Rattle.record.specs.declared.Selected.{Selected}
+use Rattle.record.specs.declared.Selected.the-variants.{Whole, Part}
+use Rattle.record.specs.declared.Form.{Form}
+use Rattle.record.specs.declared.Form.the-variants.{Plain, Merge, Combine}
+use Rattle.record.specs.declared.Scalar.{Scalar}
+use Rattle.record.specs.declared.Lanes.{Lanes}
+use Rattle.record.specs.declared.Operand.{Operand}
+use Rattle.record.specs.declared.Operand.the-variants.{Word, Double}
+use Rattle.record.specs.declared.Comparison.{Comparison}
+use Rattle.record.specs.declared.Destination.{Destination}
+use Rattle.record.specs.declared.Destination.the-variants.{One, Pair, First, Second}
+use Rattle.record.specs.declared.Choice.{Choice}
+use Rattle.record.specs.declared.Instruction.{Instruction}
+use Rattle.record.specs.declared.Instruction.the-variants.{Arithmetic, Vset, VsetLanes, Set, Setp, Selp, Slct}
+use Rattle.record.specs.declared.Record.{Record}
+use Rattle.record.specs.Registers.{wordInFile, doubleInFile, predInFile}
+use Rattle.record.specs.Modifiers.{modifiersFit}
+use Rattle.record.specs.Operands.{operandsFit}
+
+-- ---- 6: a register number at or over its file's size. Below: every register that the record names is in its file
+
+abbrev pub conditionInRange : Condition → Bool
+conditionInRange c = predInFile (c .pred)
+
+abbrev pub guardInRange : Guard → Bool
+guardInRange Always = true
+guardInRange (When c) = conditionInRange c
+
+abbrev pub selectedInRange : Selected → Bool
+selectedInRange (Whole w) = wordInFile w
+selectedInRange (Part w sel) = wordInFile w
+
+abbrev pub formInRange : Form → Bool
+formInRange (Plain d) = wordInFile d
+formInRange (Merge d sel c) = wordInFile d && wordInFile c
+formInRange (Combine op d c) = wordInFile d && wordInFile c
+
+abbrev pub scalarInRange : Scalar → Bool
+scalarInRange s = formInRange (s .form) && selectedInRange (s .a) && selectedInRange (s .b)
+
+abbrev pub lanesInRange : Lanes → Bool
+lanesInRange l = wordInFile (l .d) && wordInFile (l .a) && wordInFile (l .b) && wordInFile (l .c)
+
+abbrev pub operandInRange : Operand → Bool
+operandInRange (Word w) = wordInFile w
+operandInRange (Double d) = doubleInFile d
+
+abbrev pub combinationInRange : Combination → Bool
+combinationInRange Alone = true
+combinationInRange (With op c) = conditionInRange c
+
+abbrev pub comparisonInRange : Comparison → Bool
+comparisonInRange s = operandInRange (s .a) && operandInRange (s .b) && combinationInRange (s .combination)
+
+abbrev pub destinationInRange : Destination → Bool
+destinationInRange (One p) = predInFile p
+destinationInRange (Pair p q) = predInFile p && predInFile q
+destinationInRange (First p) = predInFile p
+destinationInRange (Second q) = predInFile q
+
+abbrev pub choiceInRange : Choice → Bool
+choiceInRange s = operandInRange (s .d) && operandInRange (s .a) && operandInRange (s .b)
+
+abbrev pub instructionInRange : Instruction → Bool
+instructionInRange (Arithmetic op dtype sat scalar) = scalarInRange scalar
+instructionInRange (Vset cmp scalar) = scalarInRange scalar
+instructionInRange (VsetLanes cmp lanes) = lanesInRange lanes
+instructionInRange (Set dtype d comparison) = wordInFile d && comparisonInRange comparison
+instructionInRange (Setp d comparison) = destinationInRange d && comparisonInRange comparison
+instructionInRange (Selp choice c) = choiceInRange choice && predInFile c
+instructionInRange (Slct ctype choice c) = choiceInRange choice && wordInFile c
+
+abbrev pub numbersInRange : Record → Bool
+numbersInRange r = guardInRange (r .guard) && instructionInRange (r .instruction)
+
+-- ---- 7: both places of a pair are the same predicate. Below: they are two
+
+abbrev pub destinationApart : Destination → Bool
+destinationApart (One p) = true
+destinationApart (Pair p q) = not (eqb (p .0) (q .0))
+destinationApart (First p) = true
+destinationApart (Second q) = true
+
+abbrev pub instructionApart : Instruction → Bool
+instructionApart (Arithmetic op dtype sat scalar) = true
+instructionApart (Vset cmp scalar) = true
+instructionApart (VsetLanes cmp lanes) = true
+instructionApart (Set dtype d comparison) = true
+instructionApart (Setp d comparison) = destinationApart d
+instructionApart (Selp choice c) = true
+instructionApart (Slct ctype choice c) = true
+
+abbrev pub pairApart : Record → Bool
+pairApart r = instructionApart (r .instruction)
+
+-- ---- 8: record is not legal: it breaks a rule above on modifiers, operands, register numbers or pairs (stated of the record, with no line)
+
+unfoldable pub isLegal : Record → Bool
+isLegal r = modifiersFit r && operandsFit r && numbersInRange r && pairApart r
+
+abbrev pub Legal : Record → Type 0
+Legal r = isLegal r ≡ true
