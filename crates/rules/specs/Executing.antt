@@ -1,0 +1,178 @@
+-- Document 01, "Registers" and "Refusal numbers" for executing: the lent files, what a record reads and writes, refusals 8, 10, 11, done and skipped.
+use Prim.Native.Nat.{ℕ, zero, suc}
+use mathlib.Core.Bool.{Bool, true, false, not, _&&_, cond}
+use mathlib.Core.List.{List, [], _∷_}
+use lib.ListN.{getD, set, length}
+use lib.Dec.{leb, eqb}
+use lib.Ieee.{unlike}
+use Rattle.record.specs.Registers.{wordCount, doubleCount, predCount}
+use Rattle.record.specs.Refusals.{isLegal}
+use Rattle.record.specs.declared.Word.{Word}
+use Rattle.record.specs.declared.Pred.{Pred}
+use Rattle.record.specs.declared.Condition.{Condition}
+use Rattle.record.specs.declared.Guard.{Guard}
+use Rattle.record.specs.declared.Guard.the-variants.{Always, When}
+use Rattle.record.specs.declared.Combination.{Combination}
+use Rattle.record.specs.declared.Combination.the-variants.{Alone, With}
+use Rattle.record.specs.declared.Selected.{Selected}
+use Rattle.record.specs.declared.Selected.the-variants.{Whole, Part}
+use Rattle.record.specs.declared.Form.{Form}
+use Rattle.record.specs.declared.Form.the-variants.{Plain, Merge, Combine}
+use Rattle.record.specs.declared.Scalar.{Scalar}
+use Rattle.record.specs.declared.Operand
+use Rattle.record.specs.declared.Operand.{Operand}
+use Rattle.record.specs.declared.Comparison.{Comparison}
+use Rattle.record.specs.declared.Destination.{Destination}
+use Rattle.record.specs.declared.Destination.the-variants.{One, Pair, First, Second}
+use Rattle.record.specs.declared.Choice.{Choice}
+use Rattle.record.specs.declared.Instruction.{Instruction}
+use Rattle.record.specs.declared.Instruction.the-variants.{Arithmetic, Vset, VsetLanes, Set, Setp, Selp, Slct}
+use Rattle.record.specs.declared.Record.{Record}
+use Rattle.rules.specs.Numbers.{bit}
+use Rattle.rules.specs.Execution.{arithmeticOf, vsetOf, lanesOf, comparisonOf, boolOf, setOf, selpOf, slctOf}
+
+-- Three lent files: words, double-words, predicates
+pub record Files : Type 0 where
+  pub words : List ℕ
+  pub doubles : List ℕ
+  pub preds : List ℕ
+
+abbrev pub files : List ℕ → List ℕ → List ℕ → Files
+files ws ds ps = record { words = ws; doubles = ds; preds = ps }
+
+-- `%r3`, `%rd3` and `%p3` are three different places
+pub data Place : Type 0 where
+  word : ℕ → Place
+  double : ℕ → Place
+  pred : ℕ → Place
+
+pub record Write : Type 0 where
+  pub place : Place
+  pub value : ℕ
+
+-- ==== what is read
+
+abbrev pub wordOf : Files → Word → ℕ
+wordOf f w = getD (f .words) (w .0) 0
+
+abbrev pub predOf : Files → Pred → ℕ
+predOf f p = getD (f .preds) (p .0) 0
+
+abbrev pub operandOf : Files → Operand → ℕ
+operandOf f (Operand.Word w) = getD (f .words) (w .0) 0
+operandOf f (Operand.Double d) = getD (f .doubles) (d .0) 0
+
+abbrev pub selectedWord : Selected → Word
+selectedWord (Whole w) = w
+selectedWord (Part w sel) = w
+
+-- c of scalar video; the form without c does not look at it
+abbrev pub formC : Files → Form → ℕ
+formC f (Plain d) = 0
+formC f (Merge d sel c) = wordOf f c
+formC f (Combine op d c) = wordOf f c
+
+-- `!` inverts
+abbrev pub conditionHolds : Files → Condition → Bool
+conditionHolds f c = unlike (c .inverted) (eqb (predOf f (c .pred)) 1)
+
+-- BoolOp(t, c), t alone without BoolOp
+abbrev pub combinedOf : Files → Combination → Bool → Bool
+combinedOf f Alone t = t
+combinedOf f (With op c) t = boolOf op t (conditionHolds f c)
+
+-- t of set and setp
+abbrev pub testOf : Files → Comparison → Bool
+testOf f s = comparisonOf (s .cmp) (s .ftz) (s .stype) (operandOf f (s .a)) (operandOf f (s .b))
+
+-- ==== what is written, in operand order
+
+abbrev pub write : Place → ℕ → Write
+write p v = record { place = p; value = v }
+
+abbrev pub formD : Form → ℕ
+formD (Plain d) = d .0
+formD (Merge d sel c) = d .0
+formD (Combine op d c) = d .0
+
+abbrev pub operandPlace : Operand → Place
+operandPlace (Operand.Word w) = word (w .0)
+operandPlace (Operand.Double d) = double (d .0)
+
+-- setp writes BoolOp(t, c) to the first place, BoolOp(not t, c) to the second; `_` drops one
+abbrev pub destinationWrites : Destination → Bool → Bool → List Write
+destinationWrites (One p) first second = write (pred (p .0)) (bit first) ∷ []
+destinationWrites (Pair p q) first second = write (pred (p .0)) (bit first) ∷ write (pred (q .0)) (bit second) ∷ []
+destinationWrites (First p) first second = write (pred (p .0)) (bit first) ∷ []
+destinationWrites (Second q) first second = write (pred (q .0)) (bit second) ∷ []
+
+unfoldable pub writes : Instruction → Files → List Write
+writes (Arithmetic op dtype sat s) f =
+    write (word (formD (s .form)))
+    (arithmeticOf op dtype sat s (wordOf f (selectedWord (s .a))) (wordOf f (selectedWord (s .b))) (formC f (s .form)))
+    ∷ []
+writes (Vset cmp s) f =
+    write (word (formD (s .form))) (vsetOf cmp s (wordOf f (selectedWord (s .a))) (wordOf f (selectedWord (s .b))) (formC f (s .form))) ∷ []
+writes (VsetLanes cmp l) f = write (word (l .d .0)) (lanesOf cmp l (wordOf f (l .a)) (wordOf f (l .b)) (wordOf f (l .c))) ∷ []
+writes (Set dtype d s) f = write (word (d .0)) (setOf dtype (combinedOf f (s .combination) (testOf f s))) ∷ []
+writes (Setp d s) f = destinationWrites d (combinedOf f (s .combination) (testOf f s)) (combinedOf f (s .combination) (not (testOf f s)))
+writes (Selp s c) f = write (operandPlace (s .d)) (selpOf (predOf f c) (operandOf f (s .a)) (operandOf f (s .b))) ∷ []
+writes (Slct ctype s c) f = write (operandPlace (s .d)) (slctOf ctype (wordOf f c) (operandOf f (s .a)) (operandOf f (s .b))) ∷ []
+
+abbrev pub put : Place → ℕ → Files → Files
+put (word n) v f = files (set (f .words) n v) (f .doubles) (f .preds)
+put (double n) v f = files (f .words) (set (f .doubles) n v) (f .preds)
+put (pred n) v f = files (f .words) (f .doubles) (set (f .preds) n v)
+
+abbrev pub putAll : List Write → Files → Files
+putAll [] f = f
+putAll (w ∷ ws) f = putAll ws (put (w .place) (w .value) f)
+
+-- All sources are read before any destination is written
+unfoldable pub after : Instruction → Files → Files
+after i f = putAll (writes i f) f
+
+-- ==== executing a record
+
+-- 10: file lengths not 64, 32, 16
+unfoldable pub sizesFit : Files → Bool
+sizesFit f = eqb (length (f .words)) wordCount && eqb (length (f .doubles)) doubleCount && eqb (length (f .preds)) predCount
+
+-- 11: some predicate byte over 1
+unfoldable pub predsFit : List ℕ → Bool
+predsFit [] = true
+predsFit (p ∷ ps) = leb p 1 && predsFit ps
+
+-- Execution answers done or skipped (guard false, nothing changed). A refusal returns its number
+pub data Answer : Type 0 where
+  done : Answer
+  skipped : Answer
+  refused : ℕ → Answer
+
+pub record Outcome : Type 0 where
+  pub answer : Answer
+  pub left : Files
+
+abbrev pub outcome : Answer → Files → Outcome
+outcome a f = record { answer = a; left = f }
+
+-- Executing: 8, 10, 11, each looked at only when the earlier ones don't apply; 0 where none applies
+abbrev pub firstRefusal : Bool → Bool → Bool → ℕ
+firstRefusal illegal sizes preds = cond illegal 8 (cond sizes 10 (cond preds 11 0))
+
+abbrev pub guardHolds : Files → Guard → Bool
+guardHolds f Always = true
+guardHolds f (When c) = conditionHolds f c
+
+-- skipped: guard false, nothing changed
+abbrev pub guarded : Bool → Instruction → Files → Outcome
+guarded true i f = outcome done (after i f)
+guarded false i f = outcome skipped f
+
+-- Lent memory is unchanged by a refusal
+abbrev pub decided : ℕ → Record → Files → Outcome
+decided zero r f = guarded (guardHolds f (r .guard)) (r .instruction) f
+decided (suc n) r f = outcome (refused (suc n)) f
+
+unfoldable pub run : Record → Files → Outcome
+run r f = decided (firstRefusal (not (isLegal r)) (not (sizesFit f)) (not (predsFit (f .preds)))) r f

@@ -1,0 +1,1 @@
+// Only definitions: what document 01 says of records, apart from any program. See specs/.

@@ -1,0 +1,121 @@
+-- What the proofs of this crate cite: parts of a word, and exact numbers as the code keeps them. Assumes nothing.
+use Prim.Native.Nat.{ℕ, zero, suc, _+_, _-_, _*_, _/_, _%_, _^_, _<_, _≤_}
+use native.Mathlib.Nat.{mod-lt, mod-eq-of-lt}
+use native.Mathlib.Omega.{arith}
+use mathlib.Core.Path.{_≡_, refl, sym, ap, _∙_}
+use mathlib.Core.Bool.{Bool, true, false, cond, _&&_}
+use lib.IntN.{ℤ, pos, negsuc}
+use lib.Dec.{ltb, leb, eqb}
+use lib.ListN.{getD}
+use mathlib.Core.List.{List}
+use borrow.Author.Tests.{le-leb, lt-leb, ltb-true, ltb-false}
+use Rattle.record.specs.declared.Mask.{Mask}
+use Rattle.record.specs.declared.Width.{Width}
+use Rattle.record.specs.declared.Width.the-variants.{Half, Byte}
+use Rattle.base.specs.Lists.{tab}
+use Rattle.base.specs.Moved.{un-low, un-high, un-up, un-down}
+use Rattle.rules.specs.Numbers.{wordSize, size, lanes, partAt, joined, exactOf, lowOf, bit}
+use Rattle.rules.specs.Execution.{replaced, maskAt, count}
+use Rattle.video.specs.Exact.{bias, exactly, rejoinedOf, mergedOf, countedOf}
+
+-- ---- parts
+
+pub size-pos : (w : Width) → 0 < size w
+size-pos Half = omega arith
+size-pos Byte = omega arith
+
+pub part-lt : (n x i : ℕ) → 0 < n → partAt n x i < n
+part-lt n x zero p = mod-lt x p
+part-lt n x (suc i) p = part-lt n (x / n) i p
+
+pub part-is : (w : Width) (x i r : ℕ) → r ≡ partAt (size w) x i → (r ≡ partAt (size w) x i) × (r < size w)
+part-is w x i r e = (e, rw e (part-lt (size w) x i (size-pos w)))
+
+part-zero : (w : Width) (i : ℕ) → 0 ≡ partAt (size w) 0 i
+part-zero Half zero = refl
+part-zero Byte zero = refl
+part-zero Half (suc i) = part-zero Half i
+part-zero Byte (suc i) = part-zero Byte i
+
+-- a word has at most four parts
+pub part-past : (w : Width) (x i : ℕ) → x < 2 ^ 32 → 0 ≡ partAt (size w) x (suc (suc (suc (suc i))))
+part-past Half x i h =
+    let e : x / 2 ^ 16 / 2 ^ 16 / 2 ^ 16 / 2 ^ 16 ≡ 0 = omega arith in
+    part-zero Half i ∙ ap (λ (y : ℕ). partAt (size Half) y i) (sym e)
+part-past Byte x i h =
+    let e : x / 2 ^ 8 / 2 ^ 8 / 2 ^ 8 / 2 ^ 8 ≡ 0 = omega arith in
+    part-zero Byte i ∙ ap (λ (y : ℕ). partAt (size Byte) y i) (sym e)
+
+pub past-at : (w : Width) (x i : ℕ) → x < 2 ^ 32 → (i ≡ 0 → ⊥) → (i ≡ 1 → ⊥) → (i ≡ 2 → ⊥) → (i ≡ 3 → ⊥) → 0 ≡ partAt (size w) x i
+past-at w x zero h a b d e = absurd (a refl)
+past-at w x (suc zero) h a b d e = absurd (b refl)
+past-at w x (suc (suc zero)) h a b d e = absurd (d refl)
+past-at w x (suc (suc (suc zero))) h a b d e = absurd (e refl)
+past-at w x (suc (suc (suc (suc i)))) h a b d e = part-past w x i h
+
+-- ---- exact numbers
+
+pub exact-neg : (n x : ℕ) → n ≤ x + bias → n ≤ 2 * x → exactly ((x + bias) - n) ≡ exactOf true n x
+unfolding exactOf
+exact-neg n x p h = rw (le-leb n (2 * x) h) (un-down bias x n p)
+
+pub exact-pos : (n x : ℕ) → 2 * x < n → exactly (x + bias) ≡ exactOf true n x
+unfolding exactOf
+exact-pos n x h = rw (lt-leb n (2 * x) h) (un-up bias x)
+
+pub exact-plain : (n x : ℕ) → exactly (x + bias) ≡ exactOf false n x
+unfolding exactOf
+exact-plain n x = un-up bias x
+
+-- the low bits are those of the number moved up, where what it is moved by has none
+module _ (z : ℕ) where
+  low-of : (n : ℕ) → (z < bias → z % n ≡ n - suc ((bias - suc z) % n)) → (bias ≤ z → z % n ≡ (z - bias) % n) → z % n ≡ lowOf n (exactly z)
+  low-of n below over = go (ltb z bias) refl
+    where
+      go : (t : Bool) → ltb z bias ≡ t → z % n ≡ lowOf n (exactly z)
+      go true e = rw (un-low bias z (ltb-true z bias e)) (below (ltb-true z bias e))
+      go false e = rw (un-high bias z (ltb-false z bias e)) (over (ltb-false z bias e))
+
+  pub low-word : z % 2 ^ 32 ≡ lowOf wordSize (exactly z)
+  low-word = low-of (2 ^ 32) (λ h. omega arith) (λ h. omega arith)
+
+  pub low-lane : (w : Width) → z % size w ≡ lowOf (size w) (exactly z)
+  low-lane Half = low-of (2 ^ 16) (λ h. omega arith) (λ h. omega arith)
+  low-lane Byte = low-of (2 ^ 8) (λ h. omega arith) (λ h. omega arith)
+
+-- ---- lanes stay below the lane's size
+
+either-lt : (t : Bool) (x y n : ℕ) → x < n → y < n → cond t x y < n
+either-lt true x y n p q = p
+either-lt false x y n p q = q
+
+bit-lt : (w : Width) (t : Bool) → bit t < size w
+bit-lt Half true = omega arith
+bit-lt Half false = omega arith
+bit-lt Byte true = omega arith
+bit-lt Byte false = omega arith
+
+-- four lanes in an array, rejoined: nothing is cut
+rejoined : (w : Width) (f : ℕ → ℕ) → ((i : ℕ) → f i < size w) → rejoinedOf w (tab 4 f) ≡ joined (size w) (lanes w) f
+unfolding rejoinedOf
+rejoined Half f h = mod-eq-of-lt (omega (arith, h 0, h 1))
+rejoined Byte f h = mod-eq-of-lt (omega (arith, h 0, h 1, h 2, h 3))
+
+pub replaced-is : (w : Width) (k c v : ℕ) → v < size w → rejoinedOf w (tab 4 (λ i. cond (eqb i k) v (partAt (size w) c i))) ≡ replaced w k c v
+replaced-is w k c v h =
+    rejoined w (λ i. cond (eqb i k) v (partAt (size w) c i))
+    (λ i. either-lt (eqb i k) v (partAt (size w) c i) (size w) h (part-lt (size w) c i (size-pos w)))
+
+-- what the arrays of held and kept lanes give
+pub merged-is : (w : Width) (m : Mask) (h : ℕ → Bool) (c : ℕ)
+    → rejoinedOf w (mergedOf m (tab 4 h) (tab 4 (partAt (size w) c)))
+        ≡ joined (size w) (lanes w) (λ i. cond (maskAt m i) (bit (h i)) (partAt (size w) c i))
+unfolding mergedOf
+merged-is w m h c =
+    rejoined w (λ i. cond (maskAt m i) (bit (h i)) (partAt (size w) c i))
+    (λ i. either-lt (maskAt m i) (bit (h i)) (partAt (size w) c i) (size w) (bit-lt w (h i)) (part-lt (size w) c i (size-pos w)))
+
+pub counted-is : (w : Width) (m : Mask) (h : ℕ → Bool) → countedOf w m (tab 4 h) ≡ count (lanes w) (λ i. maskAt m i && h i)
+unfolding countedOf
+counted-is Half m h = refl
+counted-is Byte m h = refl
