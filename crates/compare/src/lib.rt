@@ -1,0 +1,278 @@
+// The comparison of set and setp, what they write, and how selp and slct choose, as functions of the numbers that the registers hold.
+use record::BoolOp;
+use record::Cmp6;
+use record::CmpF;
+use record::CmpOp;
+use record::CmpU;
+use record::DataType;
+use record::SetType;
+use record::SlctType;
+ghost use mathlib.Core.Path.{_≡_};
+ghost use Prim.Native.Nat.{_%_, _^_};
+ghost use lib.Ieee.{binary32, binary64, ofBits, isNan};
+ghost use Rattle.rules.specs.Numbers.{wordSize};
+ghost use Rattle.rules.specs.Execution.{flushed, floatHolds, comparisonOf, boolOf, trueOf, setOf, notBelowZero};
+ghost use Rattle.compare.specs.Mirror.{movedOf, comparedOf, sixFrom, unsignedFrom, wholeFrom, orderedFrom, unorderedFrom, floatFrom, wholesHold, comparedHold};
+
+// A compared value is a whole number, a single or a double. Whole numbers of a signed type are moved up by half of their range.
+pub enum Compared {
+    Whole(u64),
+    Single(f32),
+    Double(f64),
+}
+
+// ---- the bits of a register as a value
+
+fn moved32(x: u64) -> u64
+    ensures { λ r. ⌜ r ≡ movedOf (2 ^ 31) x ⌝ }
+{
+    if x < 2147483648 {
+        x + 2147483648
+    } else {
+        x - 2147483648
+    }
+}
+
+fn moved64(x: u64) -> u64
+    ensures { λ r. ⌜ r ≡ movedOf (2 ^ 63) x ⌝ }
+{
+    if x < 9223372036854775808 {
+        x + 9223372036854775808
+    } else {
+        x - 9223372036854775808
+    }
+}
+
+// Subnormal patterns become the zero of their sign.
+fn flush(ftz: bool, bits: u32) -> u32
+    ensures { λ r. ⌜ r ≡ flushed ftz bits ⌝ }
+{
+    if ftz & (bits % 2147483648 < 8388608) {
+        if 2147483648 <= bits {
+            return 2147483648;
+        }
+        return 0;
+    }
+    bits
+}
+
+// The single of a pattern: a NaN for every NaN pattern.
+fn single(bits: u32) -> f32
+    ensures { λ r. ⌜ r ≡ ofBits binary32 bits ⌝ }
+{
+    if 2139095040 < bits % 2147483648 {
+        0.0 / 0.0
+    } else {
+        f32::from_bits(bits)
+    }
+}
+
+fn double(bits: u64) -> f64
+    ensures { λ r. ⌜ r ≡ ofBits binary64 bits ⌝ }
+{
+    if 9218868437227405312 < bits % 9223372036854775808 {
+        0.0 / 0.0
+    } else {
+        f64::from_bits(bits)
+    }
+}
+
+fn low_word(x: u64) -> u32
+    ensures { λ r. ⌜ r ≡ x % wordSize ⌝ }
+{
+    (x % 4294967296) as u32
+}
+
+fn value(t: DataType, ftz: bool, x: u64) -> Compared
+    ensures { λ r. ⌜ r ≡ comparedOf t ftz x ⌝ }
+{
+    match t {
+        DataType::B32 => Compared::Whole(x),
+        DataType::B64 => Compared::Whole(x),
+        DataType::U32 => Compared::Whole(x),
+        DataType::U64 => Compared::Whole(x),
+        DataType::S32 => Compared::Whole(moved32(x)),
+        DataType::S64 => Compared::Whole(moved64(x)),
+        DataType::F32 => Compared::Single(single(flush(ftz, low_word(x)))),
+        DataType::F64 => Compared::Double(double(x)),
+    }
+}
+
+// ---- comparisons, from the tests that less, same and more hold
+
+fn six_from(op: Cmp6, less: bool, same: bool, more: bool) -> bool
+    ensures { λ r. ⌜ r ≡ sixFrom op less same more ⌝ }
+{
+    match op {
+        Cmp6::Eq => same,
+        Cmp6::Ne => !same,
+        Cmp6::Lt => less,
+        Cmp6::Le => !more,
+        Cmp6::Gt => more,
+        Cmp6::Ge => !less,
+    }
+}
+
+fn unsigned_from(op: CmpU, less: bool, more: bool) -> bool
+    ensures { λ r. ⌜ r ≡ unsignedFrom op less more ⌝ }
+{
+    match op {
+        CmpU::Lo => less,
+        CmpU::Ls => !more,
+        CmpU::Hi => more,
+        CmpU::Hs => !less,
+    }
+}
+
+fn whole_from(op: CmpOp, less: bool, same: bool, more: bool) -> bool
+    ensures { λ r. ⌜ r ≡ wholeFrom op less same more ⌝ }
+{
+    match op {
+        CmpOp::Six(s) => six_from(s, less, same, more),
+        CmpOp::Unsigned(u) => unsigned_from(u, less, more),
+        CmpOp::Float(_) => false,
+    }
+}
+
+// Ordered forms are false with a NaN.
+fn ordered_from(op: Cmp6, nan: bool, less: bool, same: bool, more: bool) -> bool
+    ensures { λ r. ⌜ r ≡ orderedFrom op nan less same more ⌝ }
+{
+    match op {
+        Cmp6::Eq => same,
+        Cmp6::Ne => !nan & !same,
+        Cmp6::Lt => less,
+        Cmp6::Le => less | same,
+        Cmp6::Gt => more,
+        Cmp6::Ge => more | same,
+    }
+}
+
+// Unordered forms are true with a NaN.
+fn unordered_from(op: CmpF, nan: bool, less: bool, same: bool, more: bool) -> bool
+    ensures { λ r. ⌜ r ≡ unorderedFrom op nan less same more ⌝ }
+{
+    match op {
+        CmpF::Equ => nan | same,
+        CmpF::Neu => nan | !same,
+        CmpF::Ltu => nan | less,
+        CmpF::Leu => nan | (less | same),
+        CmpF::Gtu => nan | more,
+        CmpF::Geu => nan | (more | same),
+        CmpF::Num => !nan,
+        CmpF::Nan => nan,
+    }
+}
+
+fn float_from(op: CmpOp, nan: bool, less: bool, same: bool, more: bool) -> bool
+    ensures { λ r. ⌜ r ≡ floatFrom op nan less same more ⌝ }
+{
+    match op {
+        CmpOp::Six(s) => ordered_from(s, nan, less, same, more),
+        CmpOp::Unsigned(_) => false,
+        CmpOp::Float(f) => unordered_from(f, nan, less, same, more),
+    }
+}
+
+fn wholes(op: CmpOp, x: u64, y: u64) -> bool
+    ensures { λ r. ⌜ r ≡ wholesHold op x y ⌝ }
+{
+    whole_from(op, x < y, x == y, y < x)
+}
+
+fn nan_single(x: f32) -> bool
+    ensures { λ r. ⌜ r ≡ isNan x ⌝ }
+{
+    x != x
+}
+
+fn nan_double(x: f64) -> bool
+    ensures { λ r. ⌜ r ≡ isNan x ⌝ }
+{
+    x != x
+}
+
+fn singles(op: CmpOp, x: f32, y: f32) -> bool
+    ensures { λ r. ⌜ r ≡ floatHolds op x y ⌝ }
+{
+    float_from(op, nan_single(x) | nan_single(y), x < y, x == y, y < x)
+}
+
+fn doubles(op: CmpOp, x: f64, y: f64) -> bool
+    ensures { λ r. ⌜ r ≡ floatHolds op x y ⌝ }
+{
+    float_from(op, nan_double(x) | nan_double(y), x < y, x == y, y < x)
+}
+
+fn compare(op: CmpOp, x: Compared, y: Compared) -> bool
+    ensures { λ r. ⌜ r ≡ comparedHold op x y ⌝ }
+{
+    match x {
+        Compared::Whole(a) => match y {
+            Compared::Whole(b) => wholes(op, a, b),
+            Compared::Single(_) => false,
+            Compared::Double(_) => false,
+        },
+        Compared::Single(a) => match y {
+            Compared::Whole(_) => false,
+            Compared::Single(b) => singles(op, a, b),
+            Compared::Double(_) => false,
+        },
+        Compared::Double(a) => match y {
+            Compared::Whole(_) => false,
+            Compared::Single(_) => false,
+            Compared::Double(b) => doubles(op, a, b),
+        },
+    }
+}
+
+// t: whether the comparison of a and b holds.
+pub fn comparison(op: CmpOp, ftz: bool, stype: DataType, a: u64, b: u64) -> bool
+    ensures { λ r. ⌜ r ≡ comparisonOf op ftz stype a b ⌝ }
+{
+    compare(op, value(stype, ftz, a), value(stype, ftz, b))
+}
+
+// ---- what is written, and how is chosen
+
+// BoolOp(t, c)
+pub fn bool_op(op: BoolOp, t: bool, c: bool) -> bool
+    ensures { λ r. ⌜ r ≡ boolOf op t c ⌝ }
+{
+    match op {
+        BoolOp::And => t & c,
+        BoolOp::Or => t | c,
+        BoolOp::Xor => t ^ c,
+    }
+}
+
+fn true_of(dtype: SetType) -> u32
+    ensures { λ r. ⌜ r ≡ trueOf dtype ⌝ }
+{
+    match dtype {
+        SetType::U32 => 0xffffffff,
+        SetType::S32 => 0xffffffff,
+        SetType::F32 => 0x3f800000,
+    }
+}
+
+// What set writes.
+pub fn set_value(dtype: SetType, t: bool) -> u32
+    ensures { λ r. ⌜ r ≡ setOf dtype t ⌝ }
+{
+    let v = true_of(dtype);
+    if t { v } else { 0 }
+}
+
+// Whether slct's c is at or above zero.
+pub fn not_below_zero(ctype: SlctType, c: u32) -> bool
+    ensures { λ r. ⌜ r ≡ notBelowZero ctype c ⌝ }
+{
+    match ctype {
+        SlctType::S32 => c < 2147483648,
+        SlctType::F32 { .. } => {
+            let x = single(c);
+            (0.0 < x) | (0.0 == x)
+        }
+    }
+}
