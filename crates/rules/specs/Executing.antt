@@ -1,5 +1,5 @@
 -- Document 01, "Registers" and "Refusal numbers" for executing: the lent files, what a record reads and writes, refusals 8, 10, 11, done and skipped.
-use Prim.Native.Nat.{ℕ, zero, suc}
+use Prim.Native.Nat.{ℕ, zero, suc, _%_}
 use mathlib.Core.Bool.{Bool, true, false, not, _&&_, cond}
 use mathlib.Core.List.{List, [], _∷_}
 use lib.ListN.{getD, set, length}
@@ -28,7 +28,7 @@ use Rattle.record.specs.declared.Choice.{Choice}
 use Rattle.record.specs.declared.Instruction.{Instruction}
 use Rattle.record.specs.declared.Instruction.the-variants.{Arithmetic, Vset, VsetLanes, Set, Setp, Selp, Slct}
 use Rattle.record.specs.declared.Record.{Record}
-use Rattle.rules.specs.Numbers.{bit}
+use Rattle.rules.specs.Numbers.{bit, wordSize}
 use Rattle.rules.specs.Execution.{arithmeticOf, vsetOf, lanesOf, comparisonOf, boolOf, setOf, selpOf, slctOf}
 
 -- Three lent files: words, double-words, predicates
@@ -50,54 +50,59 @@ pub record Write : Type 0 where
   pub place : Place
   pub value : ℕ
 
--- ==== what is read
+-- ==== what is read, each from the file that it stands in
 
-abbrev pub wordOf : Files → Word → ℕ
-wordOf f w = getD (f .words) (w .0) 0
+abbrev pub wordOf : List ℕ → Word → ℕ
+wordOf words w = getD words (w .0) 0
 
-abbrev pub predOf : Files → Pred → ℕ
-predOf f p = getD (f .preds) (p .0) 0
+abbrev pub predOf : List ℕ → Pred → ℕ
+predOf preds p = getD preds (p .0) 0
 
-abbrev pub operandOf : Files → Operand → ℕ
-operandOf f (Operand.Word w) = getD (f .words) (w .0) 0
-operandOf f (Operand.Double d) = getD (f .doubles) (d .0) 0
+abbrev pub operandOf : List ℕ → List ℕ → Operand → ℕ
+operandOf words doubles (Operand.Word w) = getD words (w .0) 0
+operandOf words doubles (Operand.Double d) = getD doubles (d .0) 0
 
 abbrev pub selectedWord : Selected → Word
 selectedWord (Whole w) = w
 selectedWord (Part w sel) = w
 
--- c of scalar video; the form without c does not look at it
-abbrev pub formC : Files → Form → ℕ
-formC f (Plain d) = 0
-formC f (Merge d sel c) = wordOf f c
-formC f (Combine op d c) = wordOf f c
+-- c of scalar video; the form `d, a, b` has none, and does not look at it
+abbrev pub formC : List ℕ → Form → ℕ
+formC words (Plain d) = 0
+formC words (Merge d sel c) = wordOf words c
+formC words (Combine op d c) = wordOf words c
 
 -- `!` inverts
-abbrev pub conditionHolds : Files → Condition → Bool
-conditionHolds f c = unlike (c .inverted) (eqb (predOf f (c .pred)) 1)
+abbrev pub conditionHolds : List ℕ → Condition → Bool
+conditionHolds preds c = unlike (c .inverted) (eqb (predOf preds (c .pred)) 1)
 
 -- BoolOp(t, c), t alone without BoolOp
-abbrev pub combinedOf : Files → Combination → Bool → Bool
-combinedOf f Alone t = t
-combinedOf f (With op c) t = boolOf op t (conditionHolds f c)
+unfoldable pub combinedOf : List ℕ → Combination → Bool → Bool
+combinedOf preds Alone t = t
+combinedOf preds (With op c) t = boolOf op t (conditionHolds preds c)
 
 -- t of set and setp
-abbrev pub testOf : Files → Comparison → Bool
-testOf f s = comparisonOf (s .cmp) (s .ftz) (s .stype) (operandOf f (s .a)) (operandOf f (s .b))
+unfoldable pub testOf : List ℕ → List ℕ → Comparison → Bool
+testOf words doubles s = comparisonOf (s .cmp) (s .ftz) (s .stype) (operandOf words doubles (s .a)) (operandOf words doubles (s .b))
 
 -- ==== what is written, in operand order
 
 abbrev pub write : Place → ℕ → Write
 write p v = record { place = p; value = v }
 
-abbrev pub formD : Form → ℕ
-formD (Plain d) = d .0
-formD (Merge d sel c) = d .0
-formD (Combine op d c) = d .0
+abbrev pub formD : Form → Word
+formD (Plain d) = d
+formD (Merge d sel c) = d
+formD (Combine op d c) = d
 
 abbrev pub operandPlace : Operand → Place
 operandPlace (Operand.Word w) = word (w .0)
 operandPlace (Operand.Double d) = double (d .0)
+
+-- as much as the place holds: all of it where the widths agree, as in every legal record
+abbrev pub kept : Operand → ℕ → ℕ
+kept (Operand.Word w) v = v % wordSize
+kept (Operand.Double d) v = v
 
 -- setp writes BoolOp(t, c) to the first place, BoolOp(not t, c) to the second; `_` drops one
 abbrev pub destinationWrites : Destination → Bool → Bool → List Write
@@ -108,16 +113,28 @@ destinationWrites (Second q) first second = write (pred (q .0)) (bit second) ∷
 
 unfoldable pub writes : Instruction → Files → List Write
 writes (Arithmetic op dtype sat s) f =
-    write (word (formD (s .form)))
-    (arithmeticOf op dtype sat s (wordOf f (selectedWord (s .a))) (wordOf f (selectedWord (s .b))) (formC f (s .form)))
+    write (word (formD (s .form) .0))
+    (arithmeticOf op dtype sat s (wordOf (f .words) (selectedWord (s .a))) (wordOf (f .words) (selectedWord (s .b))) (formC (f .words) (s .form)))
     ∷ []
 writes (Vset cmp s) f =
-    write (word (formD (s .form))) (vsetOf cmp s (wordOf f (selectedWord (s .a))) (wordOf f (selectedWord (s .b))) (formC f (s .form))) ∷ []
-writes (VsetLanes cmp l) f = write (word (l .d .0)) (lanesOf cmp l (wordOf f (l .a)) (wordOf f (l .b)) (wordOf f (l .c))) ∷ []
-writes (Set dtype d s) f = write (word (d .0)) (setOf dtype (combinedOf f (s .combination) (testOf f s))) ∷ []
-writes (Setp d s) f = destinationWrites d (combinedOf f (s .combination) (testOf f s)) (combinedOf f (s .combination) (not (testOf f s)))
-writes (Selp s c) f = write (operandPlace (s .d)) (selpOf (predOf f c) (operandOf f (s .a)) (operandOf f (s .b))) ∷ []
-writes (Slct ctype s c) f = write (operandPlace (s .d)) (slctOf ctype (wordOf f c) (operandOf f (s .a)) (operandOf f (s .b))) ∷ []
+    write (word (formD (s .form) .0))
+    (vsetOf cmp s (wordOf (f .words) (selectedWord (s .a))) (wordOf (f .words) (selectedWord (s .b))) (formC (f .words) (s .form)))
+    ∷ []
+writes (VsetLanes cmp l) f =
+    write (word (l .d .0)) (lanesOf cmp l (wordOf (f .words) (l .a)) (wordOf (f .words) (l .b)) (wordOf (f .words) (l .c))) ∷ []
+writes (Set dtype d s) f =
+    write (word (d .0)) (setOf dtype (combinedOf (f .preds) (s .combination) (testOf (f .words) (f .doubles) s))) ∷ []
+writes (Setp d s) f =
+    destinationWrites d (combinedOf (f .preds) (s .combination) (testOf (f .words) (f .doubles) s))
+    (combinedOf (f .preds) (s .combination) (not (testOf (f .words) (f .doubles) s)))
+writes (Selp s c) f =
+    write (operandPlace (s .d))
+    (kept (s .d) (selpOf (predOf (f .preds) c) (operandOf (f .words) (f .doubles) (s .a)) (operandOf (f .words) (f .doubles) (s .b))))
+    ∷ []
+writes (Slct ctype s c) f =
+    write (operandPlace (s .d))
+    (kept (s .d) (slctOf ctype (wordOf (f .words) c) (operandOf (f .words) (f .doubles) (s .a)) (operandOf (f .words) (f .doubles) (s .b))))
+    ∷ []
 
 abbrev pub put : Place → ℕ → Files → Files
 put (word n) v f = files (set (f .words) n v) (f .doubles) (f .preds)
@@ -160,9 +177,9 @@ outcome a f = record { answer = a; left = f }
 abbrev pub firstRefusal : Bool → Bool → Bool → ℕ
 firstRefusal illegal sizes preds = cond illegal 8 (cond sizes 10 (cond preds 11 0))
 
-abbrev pub guardHolds : Files → Guard → Bool
-guardHolds f Always = true
-guardHolds f (When c) = conditionHolds f c
+unfoldable pub guardHolds : List ℕ → Guard → Bool
+guardHolds preds Always = true
+guardHolds preds (When c) = conditionHolds preds c
 
 -- skipped: guard false, nothing changed
 abbrev pub guarded : Bool → Instruction → Files → Outcome
@@ -171,7 +188,7 @@ guarded false i f = outcome skipped f
 
 -- Lent memory is unchanged by a refusal
 abbrev pub decided : ℕ → Record → Files → Outcome
-decided zero r f = guarded (guardHolds f (r .guard)) (r .instruction) f
+decided zero r f = guarded (guardHolds (f .preds) (r .guard)) (r .instruction) f
 decided (suc n) r f = outcome (refused (suc n)) f
 
 unfoldable pub run : Record → Files → Outcome

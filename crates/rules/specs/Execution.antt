@@ -256,7 +256,7 @@ abbrev pub selpOf : ℕ → ℕ → ℕ → ℕ
 selpOf c a b = cond (eqb c 1) a b
 
 -- c is at or above zero; f32 zero of either sign counts as zero, NaN picks b. `ftz` has no effect
-abbrev pub notBelowZero : SlctType → ℕ → Bool
+unfoldable pub notBelowZero : SlctType → ℕ → Bool
 notBelowZero SlctType.S32 c = leZ (pos 0) (exactOf true wordSize c)
 notBelowZero (SlctType.F32 ftz) c = lt (ofBits binary32 0) (ofBits binary32 c) || eq (ofBits binary32 0) (ofBits binary32 c)
 

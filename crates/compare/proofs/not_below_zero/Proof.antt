@@ -1,3 +1,4 @@
+use Rattle.rules.specs.Execution.{notBelowZero}
 use Rattle.compare.proofs.Laws.{sign-is}
 use borrow.Author.Needs.{needs}
 use Rattle.compare.proofs.not_below_zero.Statement.{statement}
@@ -20,11 +21,13 @@ single-requires c κs = search needs
 
 -- src/lib.rt:268:1
 returns : tie.Need-returns
+unfolding notBelowZero
 returns c =
     rw (c .enum-told .given .1) (sign-is (c .before .before .args .c) (search needs))
 
 -- src/lib.rt:268:1
 returns-2 : tie.Need-returns-2
+unfolding notBelowZero
 returns-2 c =
     simp
     (c .single .ensures,
