@@ -1,2 +1,1 @@
 pub mod Mirror
-pub mod Order

@@ -1,3 +1,5 @@
 pub mod Numbers
 pub mod Execution
 pub mod Executing
+pub mod ExecutionLaws
+pub mod FloatOrder

@@ -1,6 +1,6 @@
 -- What the proofs of this crate cite: parts of a word, and exact numbers as the code keeps them. Assumes nothing.
 use Prim.Native.Nat.{ℕ, zero, suc, _+_, _-_, _*_, _/_, _%_, _^_, _<_, _≤_}
-use native.Mathlib.Nat.{mod-lt, mod-eq-of-lt}
+use native.Mathlib.Nat.{mod-eq-of-lt}
 use native.Mathlib.Omega.{arith}
 use mathlib.Core.Path.{_≡_, refl, sym, ap, _∙_}
 use mathlib.Core.Bool.{Bool, true, false, cond, _&&_}
@@ -16,17 +16,10 @@ use Rattle.base.specs.Lists.{tab}
 use Rattle.base.specs.Moved.{un-low, un-high, un-up, un-down}
 use Rattle.rules.specs.Numbers.{wordSize, size, lanes, partAt, joined, exactOf, lowOf, bit}
 use Rattle.rules.specs.Execution.{replaced, maskAt, count}
+use Rattle.rules.specs.ExecutionLaws.{size-pos, bit-lt, either-lt, part-lt}
 use Rattle.video.specs.Exact.{bias, exactly, rejoinedOf, mergedOf, countedOf}
 
 -- ---- parts
-
-pub size-pos : (w : Width) → 0 < size w
-size-pos Half = omega arith
-size-pos Byte = omega arith
-
-pub part-lt : (n x i : ℕ) → 0 < n → partAt n x i < n
-part-lt n x zero p = mod-lt x p
-part-lt n x (suc i) p = part-lt n (x / n) i p
 
 pub part-is : (w : Width) (x i r : ℕ) → r ≡ partAt (size w) x i → (r ≡ partAt (size w) x i) × (r < size w)
 part-is w x i r e = (e, rw e (part-lt (size w) x i (size-pos w)))
@@ -84,16 +77,6 @@ module _ (z : ℕ) where
   low-lane Byte = low-of (2 ^ 8) (λ h. omega arith) (λ h. omega arith)
 
 -- ---- lanes stay below the lane's size
-
-either-lt : (t : Bool) (x y n : ℕ) → x < n → y < n → cond t x y < n
-either-lt true x y n p q = p
-either-lt false x y n p q = q
-
-bit-lt : (w : Width) (t : Bool) → bit t < size w
-bit-lt Half true = omega arith
-bit-lt Half false = omega arith
-bit-lt Byte true = omega arith
-bit-lt Byte false = omega arith
 
 -- four lanes in an array, rejoined: nothing is cut
 rejoined : (w : Width) (f : ℕ → ℕ) → ((i : ℕ) → f i < size w) → rejoinedOf w (tab 4 f) ≡ joined (size w) (lanes w) f

@@ -1,3 +1,13 @@
+use mathlib.Core.Path.{_≡_, ap}
+use denote.Ref.{now}
+use contract.Lifetimes.{Lfts}
+use borrow.Fn.Kinds.{Dens, endedOf}
+use denote.Triple.Clauses.{AtExit}
+use Rattle.base.specs.Promise.{one-outcome}
+use Rattle.rules.specs.Executing.{Outcome}
+use Rattle.execute.specs.Answers.{answers-one}
+use Rattle.execute.specs.declared.Executed.{Executed}
+use Rattle.execute.proofs.execute.Kinds as kinds
 use Rattle.base.specs.Tests.{failed, passed}
 use Rattle.execute.proofs.Laws.{ends-refused, ends-skipped, ends-done}
 use borrow.Author.Tests.{eq-eqb, ne-eqb}
@@ -119,3 +129,12 @@ execute-spec =
     same-length-8
     same-length-9
     returns-3)
+
+-- no two outcomes, answers and files left, satisfy the contract as it stands in src/lib.rt
+pub execute-one-outcome :
+    (κs : Lfts 3) (a : Dens κs kinds.ps) (x y : Executed) (s t : AtExit (endedOf 3 kinds.ps kinds.r) κs)
+    → reads.Post κs a x s → reads.Post κs a y t
+    → (x ≡ y) × (now (s .1 .0) ≡ now (t .1 .0)) × (now (s .1 .1 .0) ≡ now (t .1 .1 .0)) × (now (s .1 .1 .1 .0) ≡ now (t .1 .1 .1 .0))
+execute-one-outcome κs a x y s t p q =
+    let z = one-outcome p q in
+    (answers-one x y (ap (λ (o : Outcome). o .answer) z), ap (λ (o : Outcome). o .left .words) z, ap (λ (o : Outcome). o .left .doubles) z, ap (λ (o : Outcome). o .left .preds) z)

@@ -1,7 +1,7 @@
 -- The order of IEEE 754 values by their bit patterns, over the format: two that are no NaN compare as their signs and magnitudes do. Assumes nothing.
 use mathlib.Core.Path.{_≡_, refl, sym, ap, ap₂, _∙_, subst}
 use mathlib.Core.Logic.{_⊎_, inl, inr}
-use mathlib.Core.Bool.{Bool, true, false, not, _&&_, true≢false, and-true, and-false, and-comm}
+use mathlib.Core.Bool.{Bool, true, false, not, cond, _&&_, true≢false, and-true, and-false, and-comm}
 use Prim.Native.Nat.{ℕ, zero, suc, _+_, _-_, _*_, _/_, _%_, _^_, _<_, _≤_}
 use native.Mathlib.Nat.{le-of-eq, le-of-lt, lt-of-lt-of-le, eq-or-lt-of-le, zero-add, add-comm, zero-mul, mul-assoc, mul-right-comm, mul-pos, mul-le-mul, mul-le-mul-right, mul-lt-mul-of-pos-right, pow-succ', mul-div-cancel, div-lt-iff-lt-mul, div-eq-of-lt, div-add-mod', mod-lt, mod-eq-of-lt, mul-mod-left, mod-mod-of-dvd, dvd-mul-right}
 use native.Mathlib.Omega.{arith}
@@ -16,13 +16,9 @@ use lib.Ieee.Exact.{HasValue, odd-sign}
 use lib.Ieee.Bits.{nanBits-is, nanBits-above}
 use borrow.Author.Tests.{lt-ltb, le-ltb, lt-leb, le-leb, eq-eqb, ne-eqb, ltb-true, ltb-false}
 
-abbrev pub pick {ℓ} : {A : Type ℓ} → Bool → A → A → A
-pick true x y = x
-pick false x y = y
-
 -- a pattern by sign and magnitude: the sign is the highest bit, the magnitude all bits below it. Both zeros are 0
 abbrev pub signMagnitude : Format → ℕ → ℤ
-signMagnitude f b = pick (leb (top f) b) (negℤ (pos (b % top f))) (pos (b % top f))
+signMagnitude f b = cond (leb (top f) b) (negℤ (pos (b % top f))) (pos (b % top f))
 
 -- which patterns are NaN
 pub nan-pattern : (f : Format) (b : ℕ) → isNan (ofBits f b) ≡ ltb (ones f * hid f) (b % top f)
@@ -162,7 +158,7 @@ lt-reads f (fin i k e) (fin j l d) s t m n p q =
     ∙ below-mono (units (hid f)) (units-zero (hid f) (hid-pos f)) (units-mono (hid f) (hid-pos f)) i j m n
     ∙ ap₂ (λ (u v : Bool). below u m v n) (p .0) (q .0)
 
-below-signed : (s t : Bool) (a b : ℕ) → below s a t b ≡ ltZ (pick s (negℤ (pos a)) (pos a)) (pick t (negℤ (pos b)) (pos b))
+below-signed : (s t : Bool) (a b : ℕ) → below s a t b ≡ ltZ (cond s (negℤ (pos a)) (pos a)) (cond t (negℤ (pos b)) (pos b))
 below-signed false false a b = refl
 below-signed false true a zero = sym (leb·suc-zero a)
 below-signed false true a (suc b) = refl

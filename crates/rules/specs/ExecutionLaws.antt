@@ -1,0 +1,147 @@
+-- What a technician asks of execution, proved of the definitions: lanes, counts, places. Assumes nothing.
+use Prim.Native.Nat.{ℕ, zero, suc, _+_, _*_, _/_, _%_, _^_, _<_, _≤_}
+use native.Mathlib.Nat.{add-mul-mod-self-left, add-mul-div-left, mod-eq-of-lt, div-eq-of-lt, mod-lt, zero-add}
+use native.Mathlib.Omega.{arith}
+use mathlib.Core.Path.{_≡_, refl, sym, ap, _∙_}
+use mathlib.Core.Bool.{Bool, true, false, not, _&&_, cond}
+use mathlib.Core.List.{List, [], _∷_}
+use lib.ListN.{getD, set, length, length-set}
+use lib.Seq.{getD-set-same, getD-set-other}
+use Rattle.record.specs.Refusals.{isLegal}
+use Rattle.record.specs.declared.Cmp6.{Cmp6}
+use Rattle.record.specs.declared.Pred.{Pred}
+use Rattle.record.specs.declared.Width.{Width}
+use Rattle.record.specs.declared.Width.the-variants.{Half, Byte}
+use Rattle.record.specs.declared.Lanes.{Lanes}
+use Rattle.record.specs.declared.Comparison.{Comparison}
+use Rattle.record.specs.declared.Destination.the-variants.{Pair}
+use Rattle.record.specs.declared.Instruction.{Instruction}
+use Rattle.record.specs.declared.Instruction.the-variants.{Setp}
+use Rattle.record.specs.declared.Record.{Record}
+use Rattle.rules.specs.Numbers.{wordSize, size, lanes, partAt, joined, bit}
+use Rattle.rules.specs.Execution.{maskAt, laneHolds, laneOf, count, lanesOf}
+use Rattle.rules.specs.Executing.{Files, Place, word, double, pred, Write, writes, put, putAll, after, predOf, combinedOf, testOf, Answer, done, skipped, refused, guarded, decided, run, outcome, firstRefusal, guardHolds, sizesFit, predsFit}
+
+-- ==== parts of a word, once over the number n of a part's values
+
+pub part-lt : (n x i : ℕ) → 0 < n → partAt n x i < n
+part-lt n x zero p = mod-lt x p
+part-lt n x (suc i) p = part-lt n (x / n) i p
+
+-- the parts of what is joined are the lanes
+pub part-joined : (n k : ℕ) (f : ℕ → ℕ) (i : ℕ) → 0 < n → ((j : ℕ) → f j < n) → i < k → partAt n (joined n k f) i ≡ f i
+part-joined n zero f i p h q = absurd (omega arith)
+part-joined n (suc k) f zero p h q = add-mul-mod-self-left (f 0) n (joined n k (λ j. f (suc j))) ∙ mod-eq-of-lt (h 0)
+part-joined n (suc k) f (suc i) p h q =
+    ap (λ (x : ℕ). partAt n x i) (add-mul-div-left (f 0) (joined n k (λ j. f (suc j))) p ∙ rw (div-eq-of-lt (h 0)) (zero-add _))
+    ∙ part-joined n k (λ j. f (suc j)) i p (λ j. h (suc j)) (omega arith)
+
+pub size-pos : (w : Width) → 0 < size w
+size-pos Half = omega arith
+size-pos Byte = omega arith
+
+pub bit-lt : (w : Width) (t : Bool) → bit t < size w
+bit-lt Half true = omega arith
+bit-lt Half false = omega arith
+bit-lt Byte true = omega arith
+bit-lt Byte false = omega arith
+
+pub either-lt : (t : Bool) (x y n : ℕ) → x < n → y < n → cond t x y < n
+either-lt true x y n p q = p
+either-lt false x y n p q = q
+
+-- ==== vset2 and vset4, once over the width
+
+module _ (cmp : Cmp6) (l : Lanes) (a b c : ℕ) where
+  pub lane-lt : (i : ℕ) → laneOf cmp l a b c i < size (l .width)
+  lane-lt i =
+      either-lt (maskAt (l .mask) i) (bit (laneHolds cmp l a b i)) (partAt (size (l .width)) c i) (size (l .width))
+      (bit-lt (l .width) (laneHolds cmp l a b i)) (part-lt (size (l .width)) c i (size-pos (l .width)))
+
+  -- each lane of what is written is the lane of the rules
+  each-lane : l .add ≡ false → (i : ℕ) → i < lanes (l .width) → partAt (size (l .width)) (lanesOf cmp l a b c) i ≡ laneOf cmp l a b c i
+  unfolding lanesOf laneHolds
+  each-lane plain i h = rw plain (part-joined (size (l .width)) (lanes (l .width)) (laneOf cmp l a b c) i (size-pos (l .width)) lane-lt h)
+
+  -- a masked lane gets 1 or 0 as its comparison holds
+  pub masked-gets-bit : l .add ≡ false → (i : ℕ) → i < lanes (l .width) → maskAt (l .mask) i ≡ true
+      → partAt (size (l .width)) (lanesOf cmp l a b c) i ≡ bit (laneHolds cmp l a b i)
+  masked-gets-bit plain i h m = each-lane plain i h ∙ rw m
+
+  -- a lane that the mask does not name keeps c's part
+  pub unmasked-keeps-c : l .add ≡ false → (i : ℕ) → i < lanes (l .width) → maskAt (l .mask) i ≡ false
+      → partAt (size (l .width)) (lanesOf cmp l a b c) i ≡ partAt (size (l .width)) c i
+  unmasked-keeps-c plain i h m = each-lane plain i h ∙ rw m
+
+  -- with `add`, d is c plus the number of masked lanes that hold
+  pub add-counts : l .add ≡ true → lanesOf cmp l a b c ≡ (c + count (lanes (l .width)) (λ i. maskAt (l .mask) i && laneHolds cmp l a b i)) % wordSize
+  unfolding lanesOf laneHolds
+  add-counts e = rw e
+
+-- ==== places
+
+-- what a place holds
+abbrev pub at : Files → Place → ℕ
+at f (word n) = getD (f .words) n 0
+at f (double n) = getD (f .doubles) n 0
+at f (pred n) = getD (f .preds) n 0
+
+-- the place is none of those written
+abbrev pub NotAmong : Place → List Write → Type 0
+NotAmong p [] = Unit {0}
+NotAmong p (w ∷ ws) = (w .place ≡ p → ⊥) × NotAmong p ws
+
+other : (xs : List ℕ) (m n v : ℕ) → (m ≡ n → ⊥) → getD (set xs m v) n 0 ≡ getD xs n 0
+other xs m n v h = getD-set-other xs m n v 0 (λ e. h (sym e))
+
+put-other : (p q : Place) (v : ℕ) (f : Files) → (q ≡ p → ⊥) → at (put q v f) p ≡ at f p
+put-other (word n) (word m) v f h = other (f .words) m n v (λ e. h (ap word e))
+put-other (word n) (double m) v f h = refl
+put-other (word n) (pred m) v f h = refl
+put-other (double n) (word m) v f h = refl
+put-other (double n) (double m) v f h = other (f .doubles) m n v (λ e. h (ap double e))
+put-other (double n) (pred m) v f h = refl
+put-other (pred n) (word m) v f h = refl
+put-other (pred n) (double m) v f h = refl
+put-other (pred n) (pred m) v f h = other (f .preds) m n v (λ e. h (ap pred e))
+
+put-all-other : (p : Place) (ws : List Write) (f : Files) → NotAmong p ws → at (putAll ws f) p ≡ at f p
+put-all-other p [] f h = refl
+put-all-other p (w ∷ ws) f h = put-all-other p ws (put (w .place) (w .value) f) (h .1) ∙ put-other p (w .place) (w .value) f (h .0)
+
+-- a place that the record does not name as a destination is unmoved
+pub others-unmoved : (i : Instruction) (f : Files) (p : Place) → NotAmong p (writes i f) → at (after i f) p ≡ at f p
+unfolding after
+others-unmoved i f p h = put-all-other p (writes i f) f h
+
+-- ==== setp's two places, from the predicates before either is written
+
+module _ (p q : Pred) (s : Comparison) (f : Files) (apart : p .0 ≡ q .0 → ⊥) where
+  -- BoolOp(t, c) and BoolOp(not t, c)
+  abbrev pub first : ℕ
+  first = bit (combinedOf (f .preds) (s .combination) (testOf (f .words) (f .doubles) s))
+
+  abbrev pub second : ℕ
+  second = bit (combinedOf (f .preds) (s .combination) (not (testOf (f .words) (f .doubles) s)))
+
+  pub first-place : p .0 < length (f .preds) → at (after (Setp (Pair p q) s) f) (pred (p .0)) ≡ first
+  unfolding after writes
+  first-place h = getD-set-other (set (f .preds) (p .0) first) (q .0) (p .0) second 0 apart ∙ getD-set-same (f .preds) (p .0) first 0 h
+
+  pub second-place : q .0 < length (f .preds) → at (after (Setp (Pair p q) s) f) (pred (q .0)) ≡ second
+  unfolding after writes
+  second-place h = getD-set-same (set (f .preds) (p .0) first) (q .0) second 0 (rw length-set h)
+
+-- ==== skipped and refused move nothing
+
+moves-none : (n : ℕ) (r : Record) (f : Files) → (decided n r f .answer ≡ done → ⊥) → decided n r f .left ≡ f
+moves-none (suc n) r f h = refl
+moves-none zero r f h = go (guardHolds (f .preds) (r .guard)) refl
+  where
+    go : (t : Bool) → guardHolds (f .preds) (r .guard) ≡ t → guarded (guardHolds (f .preds) (r .guard)) (r .instruction) f .left ≡ f
+    go true e = absurd (h (rw e))
+    go false e = rw e
+
+pub unless-done-unmoved : (r : Record) (f : Files) → (run r f .answer ≡ done → ⊥) → run r f .left ≡ f
+unfolding run
+unless-done-unmoved r f h = moves-none (firstRefusal (not (isLegal r)) (not (sizesFit f)) (not (predsFit (f .preds)))) r f h
