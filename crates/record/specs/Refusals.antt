@@ -1,7 +1,6 @@
 -- Document 01, "Refusal numbers", of the record: 6 and 7 said of a record, and 8.
-use Prim.Native.Nat.{ℕ}
 use mathlib.Core.Path.{_≡_}
-use mathlib.Core.Bool.{Bool, true, false, not, _&&_}
+use mathlib.Core.Bool.{Bool, true, not, _&&_}
 use lib.Dec.{eqb}
 use Rattle.record.specs.declared.Condition.{Condition}
 use Rattle.record.specs.declared.Guard.{Guard}

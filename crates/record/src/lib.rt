@@ -1,9 +1,9 @@
 // What one line of PTX says, as a record, and when a record is legal. Reading, writing and executing stand on it.
-// A record holds document 01's choices and no more. An illegal one can be made: `legal` tells.
+// Where it costs nothing the types rule out what a line cannot say; an illegal record can still be made, and `legal` tells.
 ghost use mathlib.Core.Path.{_≡_};
-ghost use Rattle.record.specs.Registers.{wordInFile, doubleInFile, predInFile, typeBits};
+ghost use Rattle.record.specs.Registers.{wordInFile, doubleInFile, predInFile};
 ghost use Rattle.record.specs.Modifiers.{kindOf, isEqNe, isSix, isUnsignedOp, isFloatOp, cmpFits, isF32, ftzFits, comparisonFits, instructionModifiersFit, modifiersFit};
-ghost use Rattle.record.specs.Operands.{operandBits, byWidth, someLane, spareLanes, maskFits, highestDigit, digitFits, spareDigitFits, digitsFit, lanesFit, sourcesFit, choiceFits, instructionOperandsFit, operandsFit};
+ghost use Rattle.record.specs.Operands.{typeBits, operandBits, byWidth, someLane, spareLanesFit, maskFits, highestDigit, digitFits, spareDigitFits, digitsFit, lanesFit, sourcesFit, choiceFits, instructionOperandsFit, operandsFit};
 ghost use Rattle.record.specs.Refusals.{conditionInRange, guardInRange, selectedInRange, formInRange, scalarInRange, lanesInRange, operandInRange, combinationInRange, comparisonInRange, destinationInRange, choiceInRange, instructionInRange, numbersInRange, destinationApart, instructionApart, pairApart, isLegal};
 
 // Word, double-word and predicate numbers are kept apart. Each holds every number that a line can spell, 0 to 999.
@@ -13,13 +13,20 @@ pub struct Double(pub u16);
 
 pub struct Pred(pub u16);
 
-// T
+// The sizes of the files, and the widths of what they hold.
+const WORDS: u16 = 64;
+const DOUBLES: u16 = 32;
+const PREDS: u16 = 16;
+const WORD_BITS: u8 = 32;
+const DOUBLE_BITS: u8 = 64;
+
+// T is u32 or s32.
 pub enum VideoType {
     U32,
     S32,
 }
 
-// set's dtype
+// set's dtype: u32 s32 f32.
 pub enum SetType {
     U32,
     S32,
@@ -52,7 +59,7 @@ pub enum Kind {
     F,
 }
 
-// CMP6
+// CMP6 is eq ne lt le gt ge.
 pub enum Cmp6 {
     Eq,
     Ne,
@@ -82,20 +89,21 @@ pub enum CmpF {
     Nan,
 }
 
-// CmpOp. `lo` and `lt` are two records.
+// CmpOp. `lo` and `lt` are not merged: they are two comparisons.
 pub enum CmpOp {
     Six(Cmp6),
     Unsigned(CmpU),
     Float(CmpF),
 }
 
+// BoolOp is and, or, xor.
 pub enum BoolOp {
     And,
     Or,
     Xor,
 }
 
-// OP2
+// OP2 is add min max.
 pub enum Op2 {
     Add,
     Min,
@@ -117,6 +125,7 @@ pub struct Condition {
     pub pred: Pred,
 }
 
+// `@`, optional `!`, a predicate; or no guard.
 pub enum Guard {
     Always,
     When(Condition),
@@ -128,7 +137,7 @@ pub enum Combination {
     With(BoolOp, Condition),
 }
 
-// The selectors of scalar video.
+// The selectors of scalar video: b0 b1 b2 b3 h0 h1.
 pub enum Selector {
     B0,
     B1,
@@ -161,7 +170,7 @@ pub struct Scalar {
 }
 
 // The lane width: vset2 has two lanes of a half, vset4 four of a byte.
-pub enum Width {
+pub enum LaneWidth {
     Half,
     Byte,
 }
@@ -184,7 +193,7 @@ pub struct Digits {
 
 // vset2, vset4: `d, a, b, c` with a mask on d and selectors on a and b. A bare operand holds its default.
 pub struct Lanes {
-    pub width: Width,
+    pub width: LaneWidth,
     pub atype: VideoType,
     pub btype: VideoType,
     pub add: bool,
@@ -229,6 +238,7 @@ pub struct Choice {
     pub b: Operand,
 }
 
+// One case for each kind of opcode: vadd vsub vabsdiff vmin vmax; vset; vset2 vset4; set; setp; selp; slct.
 pub enum Instruction {
     Arithmetic {
         op: Arith,
@@ -274,34 +284,19 @@ pub struct Record {
 fn word_in_file(w: Word) -> bool
     ensures { λ r. ⌜ r ≡ wordInFile w ⌝ }
 {
-    w.0 < 64
+    w.0 < WORDS
 }
 
 fn double_in_file(d: Double) -> bool
     ensures { λ r. ⌜ r ≡ doubleInFile d ⌝ }
 {
-    d.0 < 32
+    d.0 < DOUBLES
 }
 
 fn pred_in_file(p: Pred) -> bool
     ensures { λ r. ⌜ r ≡ predInFile p ⌝ }
 {
-    p.0 < 16
-}
-
-fn type_bits(t: DataType) -> u8
-    ensures { λ r. ⌜ r ≡ typeBits t ⌝ }
-{
-    match t {
-        DataType::B32 => 32,
-        DataType::B64 => 64,
-        DataType::U32 => 32,
-        DataType::U64 => 64,
-        DataType::S32 => 32,
-        DataType::S64 => 64,
-        DataType::F32 => 32,
-        DataType::F64 => 64,
-    }
+    p.0 < PREDS
 }
 
 // ---- modifiers
@@ -379,8 +374,8 @@ fn cmp_fits(k: Kind, c: CmpOp) -> bool
 {
     match k {
         Kind::B => is_eq_ne(c),
-        Kind::U => is_six(c) | is_unsigned_op(c),
         Kind::S => is_six(c),
+        Kind::U => is_six(c) | is_unsigned_op(c),
         Kind::F => is_six(c) | is_float_op(c),
     }
 }
@@ -436,46 +431,46 @@ fn some_lane(m: Mask) -> bool
     m.lane0 | m.lane1 | m.lane2 | m.lane3
 }
 
-fn spare_lanes(w: Width, m: Mask) -> bool
-    ensures { λ r. ⌜ r ≡ spareLanes w m ⌝ }
+fn spare_lanes_fit(w: LaneWidth, m: Mask) -> bool
+    ensures { λ r. ⌜ r ≡ spareLanesFit w m ⌝ }
 {
     match w {
-        Width::Half => !m.lane2 & !m.lane3,
-        Width::Byte => true,
+        LaneWidth::Half => !m.lane2 & !m.lane3,
+        LaneWidth::Byte => true,
     }
 }
 
-fn mask_fits(w: Width, m: Mask) -> bool
+fn mask_fits(w: LaneWidth, m: Mask) -> bool
     ensures { λ r. ⌜ r ≡ maskFits w m ⌝ }
 {
-    some_lane(m) & spare_lanes(w, m)
+    some_lane(m) & spare_lanes_fit(w, m)
 }
 
-fn highest_digit(w: Width) -> u8
+fn highest_digit(w: LaneWidth) -> u8
     ensures { λ r. ⌜ r ≡ highestDigit w ⌝ }
 {
     match w {
-        Width::Half => 3,
-        Width::Byte => 7,
+        LaneWidth::Half => 3,
+        LaneWidth::Byte => 7,
     }
 }
 
-fn digit_fits(w: Width, k: u8) -> bool
+fn digit_fits(w: LaneWidth, k: u8) -> bool
     ensures { λ r. ⌜ r ≡ digitFits w k ⌝ }
 {
     k <= highest_digit(w)
 }
 
-fn spare_digit_fits(w: Width, k: u8) -> bool
+fn spare_digit_fits(w: LaneWidth, k: u8) -> bool
     ensures { λ r. ⌜ r ≡ spareDigitFits w k ⌝ }
 {
     match w {
-        Width::Half => k == 0,
-        Width::Byte => digit_fits(w, k),
+        LaneWidth::Half => k == 0,
+        LaneWidth::Byte => digit_fits(w, k),
     }
 }
 
-fn digits_fit(w: Width, s: Digits) -> bool
+fn digits_fit(w: LaneWidth, s: Digits) -> bool
     ensures { λ r. ⌜ r ≡ digitsFit w s ⌝ }
 {
     digit_fits(w, s.lane0)
@@ -491,12 +486,27 @@ fn lanes_fit(l: Lanes) -> bool
     mask_fits(w, l.mask) & digits_fit(w, l.asel) & digits_fit(w, l.bsel)
 }
 
+fn type_bits(t: DataType) -> u8
+    ensures { λ r. ⌜ r ≡ typeBits t ⌝ }
+{
+    match t {
+        DataType::B32 => WORD_BITS,
+        DataType::B64 => DOUBLE_BITS,
+        DataType::U32 => WORD_BITS,
+        DataType::U64 => DOUBLE_BITS,
+        DataType::S32 => WORD_BITS,
+        DataType::S64 => DOUBLE_BITS,
+        DataType::F32 => WORD_BITS,
+        DataType::F64 => DOUBLE_BITS,
+    }
+}
+
 fn operand_bits(o: Operand) -> u8
     ensures { λ r. ⌜ r ≡ operandBits o ⌝ }
 {
     match o {
-        Operand::Word(_) => 32,
-        Operand::Double(_) => 64,
+        Operand::Word(_) => WORD_BITS,
+        Operand::Double(_) => DOUBLE_BITS,
     }
 }
 
@@ -679,16 +689,42 @@ fn instruction_apart(i: Instruction) -> bool
     }
 }
 
-// ---- all four
+// ---- the four rules of a record, and all together
+
+fn modifiers_fit(r: Record) -> bool
+    ensures { λ x. ⌜ x ≡ modifiersFit r ⌝ }
+{
+    let i = r.instruction;
+    instruction_modifiers_fit(i)
+}
+
+fn operands_fit(r: Record) -> bool
+    ensures { λ x. ⌜ x ≡ operandsFit r ⌝ }
+{
+    let i = r.instruction;
+    instruction_operands_fit(i)
+}
+
+// Whether every register of the record is in its file: refusal 6 says that one is not.
+pub fn numbers_in_range(r: Record) -> bool
+    ensures { λ x. ⌜ x ≡ numbersInRange r ⌝ }
+{
+    let g = r.guard;
+    let i = r.instruction;
+    guard_in_range(g) & instruction_in_range(i)
+}
+
+// Whether the places of a pair are two: refusal 7 says that they are not.
+pub fn pair_apart(r: Record) -> bool
+    ensures { λ x. ⌜ x ≡ pairApart r ⌝ }
+{
+    let i = r.instruction;
+    instruction_apart(i)
+}
 
 // Whether the record is legal: writing and executing give 8 where it is not.
 pub fn legal(r: Record) -> bool
     ensures { λ x. ⌜ x ≡ isLegal r ⌝ }
 {
-    let g = r.guard;
-    let i = r.instruction;
-    instruction_modifiers_fit(i)
-        & instruction_operands_fit(i)
-        & (guard_in_range(g) & instruction_in_range(i))
-        & instruction_apart(i)
+    modifiers_fit(r) & operands_fit(r) & numbers_in_range(r) & pair_apart(r)
 }

@@ -30,7 +30,7 @@ use record::Selector;
 use record::SetType;
 use record::SlctType;
 use record::VideoType;
-use record::Width;
+use record::LaneWidth;
 use record::Word;
 
 fn say(s: &[u8]) {
@@ -189,8 +189,8 @@ fn sized(opcode: u32, t: u32, wide: u32) -> Record {
 
 // ---- masks and selectors
 
-fn width_at(k: u32) -> Width {
-    if k == 2 { Width::Half } else { Width::Byte }
+fn width_at(k: u32) -> LaneWidth {
+    if k == 2 { LaneWidth::Half } else { LaneWidth::Byte }
 }
 
 fn mask_at(k: u32) -> Mask {
@@ -313,7 +313,7 @@ fn lanes_at(place: u32, n: u16) -> Record {
     always(Instruction::VsetLanes {
         cmp: Cmp6::Eq,
         lanes: Lanes {
-            width: Width::Half,
+            width: LaneWidth::Half,
             atype: VideoType::S32,
             btype: VideoType::S32,
             add: false,

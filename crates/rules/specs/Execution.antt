@@ -10,8 +10,8 @@ use lib.Dec.{ltb, leb, eqb}
 use lib.Ieee.{Float, Format, binary32, binary64, ofBits, isNan, lt, eq, unlike, top, hid}
 use Rattle.record.specs.declared.Word.{Word}
 use Rattle.record.specs.declared.VideoType.{VideoType}
-use Rattle.record.specs.declared.Width.{Width}
-use Rattle.record.specs.declared.Width.the-variants.{Half, Byte}
+use Rattle.record.specs.declared.LaneWidth.{LaneWidth}
+use Rattle.record.specs.declared.LaneWidth.the-variants.{Half, Byte}
 use Rattle.record.specs.declared.Selector.{Selector}
 use Rattle.record.specs.declared.Selector.the-variants.{B0, B1, B2, B3, H0, H1}
 use Rattle.record.specs.declared.Selected
@@ -47,7 +47,7 @@ use Rattle.rules.specs.Numbers.{wordSize, doubleSize, size, lanes, partA
 -- ==== Scalar video
 
 -- which part of a word a selector names: b0 b1 b2 b3 h0 h1
-abbrev pub selectorWidth : Selector → Width
+abbrev pub selectorWidth : Selector → LaneWidth
 selectorWidth B0 = Byte
 selectorWidth B1 = Byte
 selectorWidth B2 = Byte
@@ -101,7 +101,7 @@ op2Z Min x y = minZ x y
 op2Z Max x y = maxZ x y
 
 -- the word c with v as its part k
-abbrev pub replaced : Width → ℕ → ℕ → ℕ → ℕ
+abbrev pub replaced : LaneWidth → ℕ → ℕ → ℕ → ℕ
 replaced w k c v = joined (size w) (lanes w) (λ i. cond (eqb i k) v (partAt (size w) c i))
 
 -- what d gets of an exact number z, with c read as signed or not
@@ -139,11 +139,11 @@ maskAt m (suc (suc zero)) = m .lane2
 maskAt m (suc (suc (suc i))) = m .lane3
 
 -- Part numbers count through a first, low part first, then b
-abbrev pub numbered : Width → ℕ → ℕ → ℕ → ℕ
+abbrev pub numbered : LaneWidth → ℕ → ℕ → ℕ → ℕ
 numbered w a b k = cond (ltb k (lanes w)) (partAt (size w) a k) (partAt (size w) b (k - lanes w))
 
 -- lane i: the part that each selector picks, as an exact number by the type that stands first for a's selector and second for b's
-abbrev pub laneNumber : Width → VideoType → Digits → ℕ → ℕ → ℕ → ℤ
+abbrev pub laneNumber : LaneWidth → VideoType → Digits → ℕ → ℕ → ℕ → ℤ
 laneNumber w t s a b i = exactOf (isSigned t) (size w) (numbered w a b (digitAt s i))
 
 unfoldable pub laneHolds : Cmp6 → Lanes → ℕ → ℕ → ℕ → Bool

@@ -10,8 +10,8 @@ use lib.Seq.{getD-set-same, getD-set-other}
 use Rattle.record.specs.Refusals.{isLegal}
 use Rattle.record.specs.declared.Cmp6.{Cmp6}
 use Rattle.record.specs.declared.Pred.{Pred}
-use Rattle.record.specs.declared.Width.{Width}
-use Rattle.record.specs.declared.Width.the-variants.{Half, Byte}
+use Rattle.record.specs.declared.LaneWidth.{LaneWidth}
+use Rattle.record.specs.declared.LaneWidth.the-variants.{Half, Byte}
 use Rattle.record.specs.declared.Lanes.{Lanes}
 use Rattle.record.specs.declared.Comparison.{Comparison}
 use Rattle.record.specs.declared.Destination.the-variants.{Pair}
@@ -36,11 +36,11 @@ part-joined n (suc k) f (suc i) p h q =
     ap (λ (x : ℕ). partAt n x i) (add-mul-div-left (f 0) (joined n k (λ j. f (suc j))) p ∙ rw (div-eq-of-lt (h 0)) (zero-add _))
     ∙ part-joined n k (λ j. f (suc j)) i p (λ j. h (suc j)) (omega arith)
 
-pub size-pos : (w : Width) → 0 < size w
+pub size-pos : (w : LaneWidth) → 0 < size w
 size-pos Half = omega arith
 size-pos Byte = omega arith
 
-pub bit-lt : (w : Width) (t : Bool) → bit t < size w
+pub bit-lt : (w : LaneWidth) (t : Bool) → bit t < size w
 bit-lt Half true = omega arith
 bit-lt Half false = omega arith
 bit-lt Byte true = omega arith

@@ -6,8 +6,8 @@ use lib.Signed.{ltZ, leZ}
 use lib.Dec.{leb}
 use Rattle.record.specs.declared.VideoType.{VideoType}
 use Rattle.record.specs.declared.VideoType.the-variants.{U32, S32}
-use Rattle.record.specs.declared.Width.{Width}
-use Rattle.record.specs.declared.Width.the-variants.{Half, Byte}
+use Rattle.record.specs.declared.LaneWidth.{LaneWidth}
+use Rattle.record.specs.declared.LaneWidth.the-variants.{Half, Byte}
 use Rattle.record.specs.declared.Cmp6.{Cmp6}
 use Rattle.record.specs.declared.Cmp6.the-variants.{Eq, Ne, Lt, Le, Gt, Ge}
 
@@ -19,11 +19,11 @@ abbrev pub doubleSize : ℕ
 doubleSize = 2 ^ 64
 
 -- how many values a lane has, and how many lanes a word: two halves or four bytes
-abbrev pub size : Width → ℕ
+abbrev pub size : LaneWidth → ℕ
 size Half = 2 ^ 16
 size Byte = 2 ^ 8
 
-abbrev pub lanes : Width → ℕ
+abbrev pub lanes : LaneWidth → ℕ
 lanes Half = 2
 lanes Byte = 4
 

@@ -10,8 +10,8 @@ use lib.ListN.{getD}
 use mathlib.Core.List.{List}
 use borrow.Author.Tests.{le-leb, lt-leb, ltb-true, ltb-false}
 use Rattle.record.specs.declared.Mask.{Mask}
-use Rattle.record.specs.declared.Width.{Width}
-use Rattle.record.specs.declared.Width.the-variants.{Half, Byte}
+use Rattle.record.specs.declared.LaneWidth.{LaneWidth}
+use Rattle.record.specs.declared.LaneWidth.the-variants.{Half, Byte}
 use Rattle.base.specs.Lists.{tab}
 use Rattle.base.specs.Moved.{un-low, un-high, un-up, un-down}
 use Rattle.rules.specs.Numbers.{wordSize, size, lanes, partAt, joined, exactOf, lowOf, bit}
@@ -21,17 +21,17 @@ use Rattle.video.specs.Exact.{bias, exactly, rejoinedOf, mergedOf, count
 
 -- ---- parts
 
-pub part-is : (w : Width) (x i r : ℕ) → r ≡ partAt (size w) x i → (r ≡ partAt (size w) x i) × (r < size w)
+pub part-is : (w : LaneWidth) (x i r : ℕ) → r ≡ partAt (size w) x i → (r ≡ partAt (size w) x i) × (r < size w)
 part-is w x i r e = (e, rw e (part-lt (size w) x i (size-pos w)))
 
-part-zero : (w : Width) (i : ℕ) → 0 ≡ partAt (size w) 0 i
+part-zero : (w : LaneWidth) (i : ℕ) → 0 ≡ partAt (size w) 0 i
 part-zero Half zero = refl
 part-zero Byte zero = refl
 part-zero Half (suc i) = part-zero Half i
 part-zero Byte (suc i) = part-zero Byte i
 
 -- a word has at most four parts
-pub part-past : (w : Width) (x i : ℕ) → x < 2 ^ 32 → 0 ≡ partAt (size w) x (suc (suc (suc (suc i))))
+pub part-past : (w : LaneWidth) (x i : ℕ) → x < 2 ^ 32 → 0 ≡ partAt (size w) x (suc (suc (suc (suc i))))
 part-past Half x i h =
     let e : x / 2 ^ 16 / 2 ^ 16 / 2 ^ 16 / 2 ^ 16 ≡ 0 = omega arith in
     part-zero Half i ∙ ap (λ (y : ℕ). partAt (size Half) y i) (sym e)
@@ -39,7 +39,7 @@ part-past Byte x i h =
     let e : x / 2 ^ 8 / 2 ^ 8 / 2 ^ 8 / 2 ^ 8 ≡ 0 = omega arith in
     part-zero Byte i ∙ ap (λ (y : ℕ). partAt (size Byte) y i) (sym e)
 
-pub past-at : (w : Width) (x i : ℕ) → x < 2 ^ 32 → (i ≡ 0 → ⊥) → (i ≡ 1 → ⊥) → (i ≡ 2 → ⊥) → (i ≡ 3 → ⊥) → 0 ≡ partAt (size w) x i
+pub past-at : (w : LaneWidth) (x i : ℕ) → x < 2 ^ 32 → (i ≡ 0 → ⊥) → (i ≡ 1 → ⊥) → (i ≡ 2 → ⊥) → (i ≡ 3 → ⊥) → 0 ≡ partAt (size w) x i
 past-at w x zero h a b d e = absurd (a refl)
 past-at w x (suc zero) h a b d e = absurd (b refl)
 past-at w x (suc (suc zero)) h a b d e = absurd (d refl)
@@ -72,25 +72,25 @@ module _ (z : ℕ) where
   pub low-word : z % 2 ^ 32 ≡ lowOf wordSize (exactly z)
   low-word = low-of (2 ^ 32) (λ h. omega arith) (λ h. omega arith)
 
-  pub low-lane : (w : Width) → z % size w ≡ lowOf (size w) (exactly z)
+  pub low-lane : (w : LaneWidth) → z % size w ≡ lowOf (size w) (exactly z)
   low-lane Half = low-of (2 ^ 16) (λ h. omega arith) (λ h. omega arith)
   low-lane Byte = low-of (2 ^ 8) (λ h. omega arith) (λ h. omega arith)
 
 -- ---- lanes stay below the lane's size
 
 -- four lanes in an array, rejoined: nothing is cut
-rejoined : (w : Width) (f : ℕ → ℕ) → ((i : ℕ) → f i < size w) → rejoinedOf w (tab 4 f) ≡ joined (size w) (lanes w) f
+rejoined : (w : LaneWidth) (f : ℕ → ℕ) → ((i : ℕ) → f i < size w) → rejoinedOf w (tab 4 f) ≡ joined (size w) (lanes w) f
 unfolding rejoinedOf
 rejoined Half f h = mod-eq-of-lt (omega (arith, h 0, h 1))
 rejoined Byte f h = mod-eq-of-lt (omega (arith, h 0, h 1, h 2, h 3))
 
-pub replaced-is : (w : Width) (k c v : ℕ) → v < size w → rejoinedOf w (tab 4 (λ i. cond (eqb i k) v (partAt (size w) c i))) ≡ replaced w k c v
+pub replaced-is : (w : LaneWidth) (k c v : ℕ) → v < size w → rejoinedOf w (tab 4 (λ i. cond (eqb i k) v (partAt (size w) c i))) ≡ replaced w k c v
 replaced-is w k c v h =
     rejoined w (λ i. cond (eqb i k) v (partAt (size w) c i))
     (λ i. either-lt (eqb i k) v (partAt (size w) c i) (size w) h (part-lt (size w) c i (size-pos w)))
 
 -- what the arrays of held and kept lanes give
-pub merged-is : (w : Width) (m : Mask) (h : ℕ → Bool) (c : ℕ)
+pub merged-is : (w : LaneWidth) (m : Mask) (h : ℕ → Bool) (c : ℕ)
     → rejoinedOf w (mergedOf m (tab 4 h) (tab 4 (partAt (size w) c)))
         ≡ joined (size w) (lanes w) (λ i. cond (maskAt m i) (bit (h i)) (partAt (size w) c i))
 unfolding mergedOf
@@ -98,7 +98,7 @@ merged-is w m h c =
     rejoined w (λ i. cond (maskAt m i) (bit (h i)) (partAt (size w) c i))
     (λ i. either-lt (maskAt m i) (bit (h i)) (partAt (size w) c i) (size w) (bit-lt w (h i)) (part-lt (size w) c i (size-pos w)))
 
-pub counted-is : (w : Width) (m : Mask) (h : ℕ → Bool) → countedOf w m (tab 4 h) ≡ count (lanes w) (λ i. maskAt m i && h i)
+pub counted-is : (w : LaneWidth) (m : Mask) (h : ℕ → Bool) → countedOf w m (tab 4 h) ≡ count (lanes w) (λ i. maskAt m i && h i)
 unfolding countedOf
 counted-is Half m h = refl
 counted-is Byte m h = refl

@@ -5,7 +5,7 @@ use mathlib.Core.List.{List}
 use lib.IntN.{ℤ}
 use lib.ListN.{getD}
 use Rattle.record.specs.declared.Mask.{Mask}
-use Rattle.record.specs.declared.Width.{Width}
+use Rattle.record.specs.declared.LaneWidth.{LaneWidth}
 use Rattle.base.specs.Lists.{tab}
 use Rattle.base.specs.Moved.{un}
 use Rattle.rules.specs.Numbers.{wordSize, size, lanes, joined, bit}
@@ -27,11 +27,11 @@ abbrev pub Wide : ℕ → Type 0
 Wide x = (bias ≤ x + 2 ^ 34) × (x < bias + 2 ^ 34)
 
 -- four lanes in an array: rejoined, merged with what is kept, and counted
-unfoldable pub rejoinedOf : Width → List ℕ → ℕ
+unfoldable pub rejoinedOf : LaneWidth → List ℕ → ℕ
 rejoinedOf w l = joined (size w) (lanes w) (λ i. getD l i 0) % wordSize
 
 unfoldable pub mergedOf : Mask → List Bool → List ℕ → List ℕ
 mergedOf m h c = tab 4 (λ i. cond (maskAt m i) (bit (getD h i false)) (getD c i 0))
 
-unfoldable pub countedOf : Width → Mask → List Bool → ℕ
+unfoldable pub countedOf : LaneWidth → Mask → List Bool → ℕ
 countedOf w m h = count (lanes w) (λ i. maskAt m i && getD h i false)

@@ -11,7 +11,7 @@ use record::Scalar;
 use record::Selected;
 use record::Selector;
 use record::VideoType;
-use record::Width;
+use record::LaneWidth;
 ghost use mathlib.Core.Path.{_≡_};
 ghost use mathlib.Core.Bool.{cond, false, _&&_};
 ghost use Prim.Native.Nat.{_+_, _%_, _^_, _<_, _≤_};
@@ -24,26 +24,26 @@ ghost use Rattle.video.specs.Exact.{bias, exactly, Near, Wide, rejoinedO
 
 // ---- parts of a word
 
-fn lane_size(w: Width) -> u32
+fn lane_size(w: LaneWidth) -> u32
     ensures { λ r. ⌜ (r ≡ size w) × (256 ≤ r) × (r ≤ 65536) ⌝ }
 {
     match w {
-        Width::Half => 65536,
-        Width::Byte => 256,
+        LaneWidth::Half => 65536,
+        LaneWidth::Byte => 256,
     }
 }
 
-fn lane_count(w: Width) -> u8
+fn lane_count(w: LaneWidth) -> u8
     ensures { λ r. ⌜ r ≡ lanes w ⌝ }
 {
     match w {
-        Width::Half => 2,
-        Width::Byte => 4,
+        LaneWidth::Half => 2,
+        LaneWidth::Byte => 4,
     }
 }
 
 // Part i of x; a word has at most four.
-fn part(w: Width, x: u32, i: u8) -> u32
+fn part(w: LaneWidth, x: u32, i: u8) -> u32
     ensures { λ r. ⌜ (r ≡ partAt (size w) x i) × (r < size w) ⌝ }
 {
     let n = lane_size(w);
@@ -75,7 +75,7 @@ fn wide(x: u32) -> u64
 }
 
 // The word whose parts are the lanes, cut at 32 bits: with lanes below the lane's size nothing is cut.
-fn rejoin(w: Width, l: [u32; 4]) -> u32
+fn rejoin(w: LaneWidth, l: [u32; 4]) -> u32
     ensures { λ r. ⌜ r ≡ rejoinedOf w l ⌝ }
 {
     let l0 = wide(l[0]);
@@ -83,8 +83,8 @@ fn rejoin(w: Width, l: [u32; 4]) -> u32
     let l2 = wide(l[2]);
     let l3 = wide(l[3]);
     match w {
-        Width::Half => ((l0 + 65536 * (l1 + 65536 * 0)) % 4294967296) as u32,
-        Width::Byte => ((l0 + 256 * (l1 + 256 * (l2 + 256 * (l3 + 256 * 0)))) % 4294967296) as u32,
+        LaneWidth::Half => ((l0 + 65536 * (l1 + 65536 * 0)) % 4294967296) as u32,
+        LaneWidth::Byte => ((l0 + 256 * (l1 + 256 * (l2 + 256 * (l3 + 256 * 0)))) % 4294967296) as u32,
     }
 }
 
@@ -225,25 +225,25 @@ fn low(z: u64) -> u32
     (z % 4294967296) as u32
 }
 
-fn low_part(w: Width, z: u64) -> u32
+fn low_part(w: LaneWidth, z: u64) -> u32
     ensures { λ r. ⌜ (r ≡ lowOf (size w) (exactly z)) × (r < size w) ⌝ }
 {
     match w {
-        Width::Half => (z % 65536) as u32,
-        Width::Byte => (z % 256) as u32,
+        LaneWidth::Half => (z % 65536) as u32,
+        LaneWidth::Byte => (z % 256) as u32,
     }
 }
 
-fn selector_width(s: Selector) -> Width
+fn selector_width(s: Selector) -> LaneWidth
     ensures { λ r. ⌜ r ≡ selectorWidth s ⌝ }
 {
     match s {
-        Selector::B0 => Width::Byte,
-        Selector::B1 => Width::Byte,
-        Selector::B2 => Width::Byte,
-        Selector::B3 => Width::Byte,
-        Selector::H0 => Width::Half,
-        Selector::H1 => Width::Half,
+        Selector::B0 => LaneWidth::Byte,
+        Selector::B1 => LaneWidth::Byte,
+        Selector::B2 => LaneWidth::Byte,
+        Selector::B3 => LaneWidth::Byte,
+        Selector::H0 => LaneWidth::Half,
+        Selector::H1 => LaneWidth::Half,
     }
 }
 
@@ -284,7 +284,7 @@ fn form_size(f: Form) -> u64
 }
 
 // The word c with v as its part k.
-fn replace(w: Width, k: u8, c: u32, v: u32) -> u32
+fn replace(w: LaneWidth, k: u8, c: u32, v: u32) -> u32
     requires { ⌜ v < size w ⌝ }
     ensures { λ r. ⌜ r ≡ replaced w k c v ⌝ }
 {
@@ -355,7 +355,7 @@ pub fn vset(cmp: Cmp6, s: Scalar, a: u32, b: u32, c: u32) -> u32
 // ---- vset2 and vset4: the lanes are handled as one small group
 
 // Part k, counted through a first and then b.
-fn numbered_part(w: Width, a: u32, b: u32, k: u8) -> u32
+fn numbered_part(w: LaneWidth, a: u32, b: u32, k: u8) -> u32
     ensures { λ r. ⌜ r ≡ numbered w a b k ⌝ }
 {
     let n = lane_count(w);
@@ -365,7 +365,7 @@ fn numbered_part(w: Width, a: u32, b: u32, k: u8) -> u32
     part(w, b, k - n)
 }
 
-fn picked(w: Width, s: Digits, a: u32, b: u32) -> [u32; 4]
+fn picked(w: LaneWidth, s: Digits, a: u32, b: u32) -> [u32; 4]
     ensures { λ r. ⌜ r ≡ tab 4 (λ i. numbered w a b (digitAt s i)) ⌝ }
 {
     [
@@ -376,13 +376,13 @@ fn picked(w: Width, s: Digits, a: u32, b: u32) -> [u32; 4]
     ]
 }
 
-fn parts(w: Width, x: u32) -> [u32; 4]
+fn parts(w: LaneWidth, x: u32) -> [u32; 4]
     ensures { λ r. ⌜ r ≡ tab 4 (partAt (size w) x) ⌝ }
 {
     [part(w, x, 0), part(w, x, 1), part(w, x, 2), part(w, x, 3)]
 }
 
-fn lane_holds(cmp: Cmp6, w: Width, sa: bool, sb: bool, x: u32, y: u32) -> bool
+fn lane_holds(cmp: Cmp6, w: LaneWidth, sa: bool, sb: bool, x: u32, y: u32) -> bool
     ensures { λ r. ⌜ r ≡ holdsZ cmp (exactOf sa (size w) x) (exactOf sb (size w) y) ⌝ }
 {
     let n = wide(lane_size(w));
@@ -427,7 +427,7 @@ fn merged(m: Mask, h: [bool; 4], c: [u32; 4]) -> [u32; 4]
 }
 
 // How many masked lanes hold.
-fn counted(w: Width, m: Mask, h: [bool; 4]) -> u32
+fn counted(w: LaneWidth, m: Mask, h: [bool; 4]) -> u32
     ensures { λ r. ⌜ (r ≡ countedOf w m h) × (r ≤ 4) ⌝ }
 {
     let n0 = bit_of(m.lane0 & h[0]);
@@ -435,8 +435,8 @@ fn counted(w: Width, m: Mask, h: [bool; 4]) -> u32
     let n2 = bit_of(m.lane2 & h[2]);
     let n3 = bit_of(m.lane3 & h[3]);
     match w {
-        Width::Half => n0 + (n1 + 0),
-        Width::Byte => n0 + (n1 + (n2 + (n3 + 0))),
+        LaneWidth::Half => n0 + (n1 + 0),
+        LaneWidth::Byte => n0 + (n1 + (n2 + (n3 + 0))),
     }
 }
 

@@ -1,25 +1,25 @@
+use mathlib.Core.Path.{_≡_}
+use mathlib.Core.Bool.{Bool}
+use contract.Lifetimes.{Lfts}
+use borrow.Fn.Kinds.{Dens, endedOf}
+use denote.Triple.Clauses.{AtExit}
+use Rattle.base.specs.Promise.{one-outcome}
+use Rattle.compare.proofs.comparison.Reads as reads
+use Rattle.compare.proofs.comparison.Kinds as kinds
 use Rattle.compare.proofs.Laws.{compared-is}
 use borrow.Author.Needs.{needs}
 use Rattle.compare.proofs.comparison.Statement.{statement}
 use Rattle.compare.proofs.comparison.Tie as tie
-use Rattle.compare.proofs.comparison.Reads as reads
-use Rattle.compare.proofs.comparison.Lts as lts
-use Rattle.compare.proofs.compare.Reads as compare-reads
-use Rattle.compare.proofs.value.Reads as value-reads
 
--- src/lib.rt:233:17
 value-requires : tie.Need-value-requires
 value-requires c κs = search needs
 
--- src/lib.rt:233:39
 value-requires-2 : tie.Need-value-requires-2
 value-requires-2 c κs = search needs
 
--- src/lib.rt:233:5
 compare-requires : tie.Need-compare-requires
 compare-requires c κs = search needs
 
--- src/lib.rt:230:1
 returns : tie.Need-returns
 returns c =
     simp
@@ -30,3 +30,9 @@ returns c =
 
 pub comparison-spec : {M : Type 1} → statement M
 comparison-spec = tie.close (tie.spec value-requires value-requires-2 compare-requires returns)
+
+-- no two outcomes satisfy the contract as it stands in src/lib.rt
+pub comparison-one-outcome :
+    (κs : Lfts 0) (a : Dens κs kinds.ps) (x y : Bool) (s t : AtExit (endedOf 0 kinds.ps kinds.r) κs)
+    → reads.Post κs a x s → reads.Post κs a y t → x ≡ y
+comparison-one-outcome κs a x y s t p q = one-outcome p q

@@ -1,45 +1,37 @@
+use mathlib.Core.Path.{_≡_}
+use Prim.Native.Nat.{ℕ}
+use contract.Lifetimes.{Lfts}
+use borrow.Fn.Kinds.{Dens, endedOf}
+use denote.Triple.Clauses.{AtExit}
+use Rattle.base.specs.Promise.{one-outcome}
+use Rattle.video.proofs.arithmetic.Reads as reads
+use Rattle.video.proofs.arithmetic.Kinds as kinds
 use Rattle.rules.specs.Execution.{arithmeticOf}
 use borrow.Author.Needs.{needs}
 use Rattle.video.proofs.arithmetic.Statement.{statement}
 use Rattle.video.proofs.arithmetic.Tie as tie
-use Rattle.video.proofs.arithmetic.Reads as reads
-use Rattle.video.proofs.arithmetic.Lts as lts
-use Rattle.video.proofs.apply.Reads as apply-reads
-use Rattle.video.proofs.clamped.Reads as clamped-reads
-use Rattle.video.proofs.form_size.Reads as form-size-reads
-use Rattle.video.proofs.formed.Reads as formed-reads
-use Rattle.video.proofs.selected.Reads as selected-reads
-use Rattle.video.proofs.signed.Reads as signed-reads
 
--- src/lib.rt:328:9
 signed-requires : tie.Need-signed-requires
 signed-requires c κs = search needs
 
--- src/lib.rt:329:23
 selected-requires : tie.Need-selected-requires
 selected-requires c κs = search needs
 
--- src/lib.rt:329:44
 selected-requires-2 : tie.Need-selected-requires-2
 selected-requires-2 c κs = search needs
 
--- src/lib.rt:329:9
 apply-requires : tie.Need-apply-requires
 apply-requires c κs = search needs
 
--- src/lib.rt:330:43
 form-size-requires : tie.Need-form-size-requires
 form-size-requires c κs = search needs
 
--- src/lib.rt:330:24
 clamped-requires : tie.Need-clamped-requires
 clamped-requires c κs = search needs
 
--- src/lib.rt:330:5
 formed-requires : tie.Need-formed-requires
 formed-requires c κs = search needs
 
--- src/lib.rt:312:1
 returns : tie.Need-returns
 unfolding arithmeticOf
 returns c =
@@ -64,3 +56,9 @@ arithmetic-spec =
     clamped-requires
     formed-requires
     returns)
+
+-- no two outcomes satisfy the contract as it stands in src/lib.rt
+pub arithmetic-one-outcome :
+    (κs : Lfts 0) (a : Dens κs kinds.ps) (x y : ℕ) (s t : AtExit (endedOf 0 kinds.ps kinds.r) κs)
+    → reads.Post κs a x s → reads.Post κs a y t → x ≡ y
+arithmetic-one-outcome κs a x y s t p q = one-outcome p q

@@ -1,5 +1,5 @@
 use Rattle.video.proofs.Laws.{low-lane}
-use Rattle.record.specs.declared.Width.the-variants.{Half, Byte}
+use Rattle.record.specs.declared.LaneWidth.the-variants.{Half, Byte}
 use native.Mathlib.Omega.{arith}
 use borrow.Author.Needs.{needs}
 use Rattle.video.proofs.low_part.Statement.{statement}

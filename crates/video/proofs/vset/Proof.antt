@@ -1,41 +1,35 @@
+use mathlib.Core.Path.{_≡_}
+use Prim.Native.Nat.{ℕ}
+use contract.Lifetimes.{Lfts}
+use borrow.Fn.Kinds.{Dens, endedOf}
+use denote.Triple.Clauses.{AtExit}
+use Rattle.base.specs.Promise.{one-outcome}
+use Rattle.video.proofs.vset.Reads as reads
+use Rattle.video.proofs.vset.Kinds as kinds
 use Rattle.rules.specs.Numbers.{exactOf}
 use Rattle.rules.specs.Execution.{vsetOf}
 use borrow.Author.Needs.{needs}
 use Rattle.video.proofs.vset.Statement.{statement}
 use Rattle.video.proofs.vset.Tie as tie
-use Rattle.video.proofs.vset.Reads as reads
-use Rattle.video.proofs.vset.Lts as lts
-use Rattle.video.proofs.bit_of.Reads as bit-of-reads
-use Rattle.video.proofs.formed.Reads as formed-reads
-use Rattle.video.proofs.holds.Reads as holds-reads
-use Rattle.video.proofs.number.Reads as number-reads
-use Rattle.video.proofs.selected.Reads as selected-reads
 
--- src/lib.rt:348:24
 selected-requires : tie.Need-selected-requires
 selected-requires c κs = search needs
 
--- src/lib.rt:348:45
 selected-requires-2 : tie.Need-selected-requires-2
 selected-requires-2 c κs = search needs
 
--- src/lib.rt:348:9
 holds-requires : tie.Need-holds-requires
 holds-requires c κs = search needs
 
--- src/lib.rt:349:51
 bit-of-requires : tie.Need-bit-of-requires
 bit-of-requires c κs = search needs
 
--- src/lib.rt:349:25
 number-requires : tie.Need-number-requires
 number-requires c κs = search needs
 
--- src/lib.rt:349:5
 formed-requires : tie.Need-formed-requires
 formed-requires c κs = search needs
 
--- src/lib.rt:340:1
 returns : tie.Need-returns
 unfolding vsetOf exactOf
 returns c =
@@ -58,3 +52,9 @@ vset-spec =
     number-requires
     formed-requires
     returns)
+
+-- no two outcomes satisfy the contract as it stands in src/lib.rt
+pub vset-one-outcome :
+    (κs : Lfts 0) (a : Dens κs kinds.ps) (x y : ℕ) (s t : AtExit (endedOf 0 kinds.ps kinds.r) κs)
+    → reads.Post κs a x s → reads.Post κs a y t → x ≡ y
+vset-one-outcome κs a x y s t p q = one-outcome p q
