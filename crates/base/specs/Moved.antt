@@ -92,6 +92,7 @@ un-neg k y h = go (ltb y k) (ltb k y) refl refl
   where
     over : (m : ℕ) → y ≡ k + suc m → un k ((k + k) - y) ≡ negsuc m
     over m e = un-low k ((k + k) - y) (omega arith) ∙ ap negsuc (omega arith)
+
     go : (s t : Bool) → ltb y k ≡ s → ltb k y ≡ t → un k ((k + k) - y) ≡ negℤ (un k y)
     go true t e f =
         let a : y < k = ltb-true y k e in

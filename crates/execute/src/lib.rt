@@ -160,7 +160,11 @@ fn do_arithmetic(op: Arith, dtype: VideoType, sat: bool, s: Scalar, words: &mut 
     let a = get_word(words, selected_word(sa));
     let b = get_word(words, selected_word(sb));
     let c = form_c(f, words);
-    put_word(words, form_d(f), video::arithmetic(op, dtype, sat, s, a, b, c));
+    put_word(
+        words,
+        form_d(f),
+        video::arithmetic(op, dtype, sat, s, a, b, c),
+    );
 }
 
 fn do_vset(cmp: Cmp6, s: Scalar, words: &mut [u32])
@@ -218,7 +222,11 @@ fn do_set(dtype: SetType, d: Word, s: Comparison, words: &mut [u32], doubles: &[
 {
     let with = s.combination;
     let t = test(s, words, doubles);
-    put_word(words, d, compare::set_value(dtype, combined(with, t, preds)));
+    put_word(
+        words,
+        d,
+        compare::set_value(dtype, combined(with, t, preds)),
+    );
 }
 
 fn bit_of(t: bool) -> u8

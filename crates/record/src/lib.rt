@@ -15,9 +15,13 @@ pub struct Pred(pub u16);
 
 // The sizes of the files, and the widths of what they hold.
 const WORDS: u16 = 64;
+
 const DOUBLES: u16 = 32;
+
 const PREDS: u16 = 16;
+
 const WORD_BITS: u8 = 32;
+
 const DOUBLE_BITS: u8 = 64;
 
 // T is u32 or s32.

@@ -18,6 +18,7 @@ use record::Double;
 use record::Form;
 use record::Guard;
 use record::Instruction;
+use record::LaneWidth;
 use record::Lanes;
 use record::Mask;
 use record::Op2;
@@ -30,7 +31,6 @@ use record::Selector;
 use record::SetType;
 use record::SlctType;
 use record::VideoType;
-use record::LaneWidth;
 use record::Word;
 
 fn say(s: &[u8]) {
@@ -190,7 +190,11 @@ fn sized(opcode: u32, t: u32, wide: u32) -> Record {
 // ---- masks and selectors
 
 fn width_at(k: u32) -> LaneWidth {
-    if k == 2 { LaneWidth::Half } else { LaneWidth::Byte }
+    if k == 2 {
+        LaneWidth::Half
+    } else {
+        LaneWidth::Byte
+    }
 }
 
 fn mask_at(k: u32) -> Mask {

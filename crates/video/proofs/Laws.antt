@@ -92,7 +92,7 @@ replaced-is w k c v h =
 -- what the arrays of held and kept lanes give
 pub merged-is : (w : LaneWidth) (m : Mask) (h : ℕ → Bool) (c : ℕ)
     → rejoinedOf w (mergedOf m (tab 4 h) (tab 4 (partAt (size w) c)))
-        ≡ joined (size w) (lanes w) (λ i. cond (maskAt m i) (bit (h i)) (partAt (size w) c i))
+    ≡ joined (size w) (lanes w) (λ i. cond (maskAt m i) (bit (h i)) (partAt (size w) c i))
 unfolding mergedOf
 merged-is w m h c =
     rejoined w (λ i. cond (maskAt m i) (bit (h i)) (partAt (size w) c i))

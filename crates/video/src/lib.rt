@@ -4,6 +4,7 @@ use record::Arith;
 use record::Cmp6;
 use record::Digits;
 use record::Form;
+use record::LaneWidth;
 use record::Lanes;
 use record::Mask;
 use record::Op2;
@@ -11,7 +12,6 @@ use record::Scalar;
 use record::Selected;
 use record::Selector;
 use record::VideoType;
-use record::LaneWidth;
 ghost use mathlib.Core.Path.{_≡_};
 ghost use mathlib.Core.Bool.{cond, false, _&&_};
 ghost use Prim.Native.Nat.{_+_, _%_, _^_, _<_, _≤_};
@@ -84,7 +84,8 @@ fn rejoin(w: LaneWidth, l: [u32; 4]) -> u32
     let l3 = wide(l[3]);
     match w {
         LaneWidth::Half => ((l0 + 65536 * (l1 + 65536 * 0)) % 4294967296) as u32,
-        LaneWidth::Byte => ((l0 + 256 * (l1 + 256 * (l2 + 256 * (l3 + 256 * 0)))) % 4294967296) as u32,
+        LaneWidth::Byte => ((l0 + 256 * (l1 + 256 * (l2 + 256 * (l3 + 256 * 0))))
+            % 4294967296) as u32,
     }
 }
 
@@ -312,15 +313,7 @@ fn formed(sign: bool, f: Form, c: u32, z: u64) -> u32
 }
 
 // What vadd, vsub, vabsdiff, vmin or vmax gives of a, b and c.
-pub fn arithmetic(
-    op: Arith,
-    dtype: VideoType,
-    sat: bool,
-    s: Scalar,
-    a: u32,
-    b: u32,
-    c: u32,
-) -> u32
+pub fn arithmetic(op: Arith, dtype: VideoType, sat: bool, s: Scalar, a: u32, b: u32, c: u32) -> u32
     ensures { λ r. ⌜ r ≡ arithmeticOf op dtype sat s a b c ⌝ }
 {
     let ta = s.atype;

@@ -22,10 +22,11 @@ compare-requires c κs = search needs
 
 returns : tie.Need-returns
 returns c =
-    simp
-    (c .compare .ensures,
-    c .before .value2 .ensures,
-    c .before .before .value .ensures)
+    simp (
+      c .compare .ensures,
+      c .before .value2 .ensures,
+      c .before .before .value .ensures,
+    )
     (compared-is (c .before .before .before .args .op) (c .before .before .before .args .stype) (c .before .before .before .args .ftz) (c .before .before .before .args .a) (c .before .before .before .args .b))
 
 pub comparison-spec : {M : Type 1} → statement M

@@ -5,20 +5,15 @@ use borrow.Author.Tests.{lt-ltb}
 use borrow.Author.Needs.{needs}
 use Rattle.compare.proofs.double.Statement.{statement}
 use Rattle.compare.proofs.double.Tie as tie
-use Rattle.compare.proofs.double.Reads as reads
-use Rattle.compare.proofs.double.Lts as lts
 
--- src/lib.rt:76:9
 float-from-bits-result : tie.Need-float-from-bits-result
 float-from-bits-result c =
     pattern-plain binary64 (c .before .args .bits) (c .if1 .left)
 
--- src/lib.rt:70:1
 returns : tie.Need-returns
 returns c =
     zero-over-zero binary64 ∙ sym (pattern-nan binary64 (c .before .args .bits) (c .if1 .taken))
 
--- src/lib.rt:70:1
 returns-2 : tie.Need-returns-2
 returns-2 c = search needs
 

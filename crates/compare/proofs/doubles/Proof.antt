@@ -2,30 +2,23 @@ use Rattle.compare.proofs.Laws.{float-is}
 use borrow.Author.Needs.{needs}
 use Rattle.compare.proofs.doubles.Statement.{statement}
 use Rattle.compare.proofs.doubles.Tie as tie
-use Rattle.compare.proofs.doubles.Reads as reads
-use Rattle.compare.proofs.doubles.Lts as lts
-use Rattle.compare.proofs.float_from.Reads as float-from-reads
-use Rattle.compare.proofs.nan_double.Reads as nan-double-reads
 
--- src/lib.rt:204:20
 nan-double-requires : tie.Need-nan-double-requires
 nan-double-requires c κs = search needs
 
--- src/lib.rt:204:36
 nan-double-requires-2 : tie.Need-nan-double-requires-2
 nan-double-requires-2 c κs = search needs
 
--- src/lib.rt:204:5
 float-from-requires : tie.Need-float-from-requires
 float-from-requires c κs = search needs
 
--- src/lib.rt:201:1
 returns : tie.Need-returns
 returns c =
-    simp
-    (c .float-from .ensures,
-    c .before .nan-double2 .ensures,
-    c .before .before .nan-double .ensures)
+    simp (
+      c .float-from .ensures,
+      c .before .nan-double2 .ensures,
+      c .before .before .nan-double .ensures,
+    )
     (float-is (c .before .before .before .args .op) (c .before .before .before .args .x) (c .before .before .before .args .y))
 
 pub doubles-spec : {M : Type 1} → statement M

@@ -1,48 +1,38 @@
 use borrow.Author.Needs.{needs}
 use Rattle.compare.proofs.float_from.Statement.{statement}
 use Rattle.compare.proofs.float_from.Tie as tie
-use Rattle.compare.proofs.float_from.Reads as reads
-use Rattle.compare.proofs.float_from.Lts as lts
-use Rattle.compare.proofs.ordered_from.Reads as ordered-from-reads
-use Rattle.compare.proofs.unordered_from.Reads as unordered-from-reads
 
--- src/lib.rt:171:20
 enum-known-op : tie.Need-enum-known-op
 enum-known-op c = search needs
 
--- src/lib.rt:171:26
 ordered-from-requires : tie.Need-ordered-from-requires
 ordered-from-requires c κs = search needs
 
--- src/lib.rt:172:31
 enum-told : tie.Need-enum-told
 enum-told c = search needs
 
--- src/lib.rt:173:22
 enum-known-op-2 : tie.Need-enum-known-op-2
 enum-known-op-2 c = search needs
 
--- src/lib.rt:173:28
 unordered-from-requires : tie.Need-unordered-from-requires
 unordered-from-requires c κs = search needs
 
--- src/lib.rt:167:1
 returns : tie.Need-returns
 returns c =
-    simp
-    (c .ordered-from .ensures,
-    c .before .before .op .given .1)
+    simp (
+      c .ordered-from .ensures,
+      c .before .before .op .given .1,
+    )
 
--- src/lib.rt:167:1
 returns-2 : tie.Need-returns-2
 returns-2 c = search needs
 
--- src/lib.rt:167:1
 returns-3 : tie.Need-returns-3
 returns-3 c =
-    simp
-    (c .unordered-from .ensures,
-    c .before .before .op2 .given .1)
+    simp (
+      c .unordered-from .ensures,
+      c .before .before .op2 .given .1,
+    )
 
 pub float-from-spec : {M : Type 1} → statement M
 float-from-spec =

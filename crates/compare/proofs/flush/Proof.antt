@@ -1,24 +1,21 @@
 use borrow.Author.Tests.{le-leb, lt-leb}
 use Rattle.compare.proofs.flush.Statement.{statement}
 use Rattle.compare.proofs.flush.Tie as tie
-use Rattle.compare.proofs.flush.Reads as reads
-use Rattle.compare.proofs.flush.Lts as lts
 
--- src/lib.rt:52:13
 returns : tie.Need-returns
 returns c =
-    simp
-    (le-leb _ _ (c .if2 .taken),
-    c .before .if1 .taken)
+    simp (
+      le-leb _ _ (c .if2 .taken),
+      c .before .if1 .taken,
+    )
 
--- src/lib.rt:54:9
 returns-2 : tie.Need-returns-2
 returns-2 c =
-    simp
-    (lt-leb _ _ (c .if2 .left),
-    c .before .if1 .taken)
+    simp (
+      lt-leb _ _ (c .if2 .left),
+      c .before .if1 .taken,
+    )
 
--- src/lib.rt:47:1
 returns-3 : tie.Need-returns-3
 returns-3 c =
     simp

@@ -3,21 +3,16 @@ use borrow.Author.Tests.{le-ltb, lt-ltb}
 use borrow.Author.Needs.{needs}
 use Rattle.compare.proofs.moved64.Statement.{statement}
 use Rattle.compare.proofs.moved64.Tie as tie
-use Rattle.compare.proofs.moved64.Reads as reads
-use Rattle.compare.proofs.moved64.Lts as lts
 
--- src/lib.rt:40:9
 add-result : tie.Need-add-result
 add-result c = search needs
 
--- src/lib.rt:36:1
 returns : tie.Need-returns
 unfolding movedOf
 returns c =
     simp
     (lt-ltb _ _ (c .if1 .taken))
 
--- src/lib.rt:36:1
 returns-2 : tie.Need-returns-2
 unfolding movedOf
 returns-2 c =

@@ -29,9 +29,10 @@ returns c =
 returns-2 : tie.Need-returns-2
 unfolding notBelowZero
 returns-2 c =
-    simp
-    (c .single .ensures,
-    c .before .enum-told2 .given .1)
+    simp (
+      c .single .ensures,
+      c .before .enum-told2 .given .1,
+    )
 
 pub not-below-zero-spec : {M : Type 1} → statement M
 not-below-zero-spec = tie.close (tie.spec enum-told enum-told-2 single-requires returns returns-2)

@@ -1,58 +1,44 @@
 use borrow.Author.Needs.{needs}
 use Rattle.compare.proofs.ordered_from.Statement.{statement}
 use Rattle.compare.proofs.ordered_from.Tie as tie
-use Rattle.compare.proofs.ordered_from.Reads as reads
-use Rattle.compare.proofs.ordered_from.Lts as lts
 
--- src/lib.rt:142:21
 enum-told : tie.Need-enum-told
 enum-told c = search needs
 
--- src/lib.rt:143:21
 enum-told-2 : tie.Need-enum-told-2
 enum-told-2 c = search needs
 
--- src/lib.rt:144:21
 enum-told-3 : tie.Need-enum-told-3
 enum-told-3 c = search needs
 
--- src/lib.rt:145:21
 enum-told-4 : tie.Need-enum-told-4
 enum-told-4 c = search needs
 
--- src/lib.rt:146:21
 enum-told-5 : tie.Need-enum-told-5
 enum-told-5 c = search needs
 
--- src/lib.rt:147:21
 enum-told-6 : tie.Need-enum-told-6
 enum-told-6 c = search needs
 
--- src/lib.rt:138:1
 returns : tie.Need-returns
 returns c = search needs
 
--- src/lib.rt:138:1
 returns-2 : tie.Need-returns-2
 returns-2 c =
     simp
     (c .enum-told2 .given .1)
 
--- src/lib.rt:138:1
 returns-3 : tie.Need-returns-3
 returns-3 c = search needs
 
--- src/lib.rt:138:1
 returns-4 : tie.Need-returns-4
 returns-4 c =
     simp
     (c .enum-told4 .given .1)
 
--- src/lib.rt:138:1
 returns-5 : tie.Need-returns-5
 returns-5 c = search needs
 
--- src/lib.rt:138:1
 returns-6 : tie.Need-returns-6
 returns-6 c =
     simp

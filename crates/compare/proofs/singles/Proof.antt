@@ -2,30 +2,23 @@ use Rattle.compare.proofs.Laws.{float-is}
 use borrow.Author.Needs.{needs}
 use Rattle.compare.proofs.singles.Statement.{statement}
 use Rattle.compare.proofs.singles.Tie as tie
-use Rattle.compare.proofs.singles.Reads as reads
-use Rattle.compare.proofs.singles.Lts as lts
-use Rattle.compare.proofs.float_from.Reads as float-from-reads
-use Rattle.compare.proofs.nan_single.Reads as nan-single-reads
 
--- src/lib.rt:198:20
 nan-single-requires : tie.Need-nan-single-requires
 nan-single-requires c κs = search needs
 
--- src/lib.rt:198:36
 nan-single-requires-2 : tie.Need-nan-single-requires-2
 nan-single-requires-2 c κs = search needs
 
--- src/lib.rt:198:5
 float-from-requires : tie.Need-float-from-requires
 float-from-requires c κs = search needs
 
--- src/lib.rt:195:1
 returns : tie.Need-returns
 returns c =
-    simp
-    (c .float-from .ensures,
-    c .before .nan-single2 .ensures,
-    c .before .before .nan-single .ensures)
+    simp (
+      c .float-from .ensures,
+      c .before .nan-single2 .ensures,
+      c .before .before .nan-single .ensures,
+    )
     (float-is (c .before .before .before .args .op) (c .before .before .before .args .x) (c .before .before .before .args .y))
 
 pub singles-spec : {M : Type 1} → statement M

@@ -1,82 +1,64 @@
 use borrow.Author.Needs.{needs}
 use Rattle.compare.proofs.unordered_from.Statement.{statement}
 use Rattle.compare.proofs.unordered_from.Tie as tie
-use Rattle.compare.proofs.unordered_from.Reads as reads
-use Rattle.compare.proofs.unordered_from.Lts as lts
 
--- src/lib.rt:156:22
 enum-told : tie.Need-enum-told
 enum-told c = search needs
 
--- src/lib.rt:157:28
 enum-told-2 : tie.Need-enum-told-2
 enum-told-2 c = search needs
 
--- src/lib.rt:158:22
 enum-told-3 : tie.Need-enum-told-3
 enum-told-3 c = search needs
 
--- src/lib.rt:159:29
 enum-told-4 : tie.Need-enum-told-4
 enum-told-4 c = search needs
 
--- src/lib.rt:160:22
 enum-told-5 : tie.Need-enum-told-5
 enum-told-5 c = search needs
 
--- src/lib.rt:161:29
 enum-told-6 : tie.Need-enum-told-6
 enum-told-6 c = search needs
 
--- src/lib.rt:162:22
 enum-told-7 : tie.Need-enum-told-7
 enum-told-7 c = search needs
 
--- src/lib.rt:163:22
 enum-told-8 : tie.Need-enum-told-8
 enum-told-8 c = search needs
 
--- src/lib.rt:152:1
 returns : tie.Need-returns
 returns c =
     simp
     (c .enum-told .given .1)
 
--- src/lib.rt:152:1
 returns-2 : tie.Need-returns-2
 returns-2 c =
     simp
     (c .enum-told2 .given .1)
 
--- src/lib.rt:152:1
 returns-3 : tie.Need-returns-3
 returns-3 c =
     simp
     (c .enum-told3 .given .1)
 
--- src/lib.rt:152:1
 returns-4 : tie.Need-returns-4
 returns-4 c =
     simp
     (c .enum-told4 .given .1)
 
--- src/lib.rt:152:1
 returns-5 : tie.Need-returns-5
 returns-5 c =
     simp
     (c .enum-told5 .given .1)
 
--- src/lib.rt:152:1
 returns-6 : tie.Need-returns-6
 returns-6 c =
     simp
     (c .enum-told6 .given .1)
 
--- src/lib.rt:152:1
 returns-7 : tie.Need-returns-7
 returns-7 c = search needs
 
--- src/lib.rt:152:1
 returns-8 : tie.Need-returns-8
 returns-8 c = search needs
 

@@ -2,42 +2,33 @@ use Rattle.rules.specs.Executing.{combinedOf}
 use borrow.Author.Needs.{needs}
 use Rattle.execute.proofs.combined.Statement.{statement}
 use Rattle.execute.proofs.combined.Tie as tie
-use Rattle.execute.proofs.combined.Reads as reads
-use Rattle.execute.proofs.combined.Lts as lts
-use Rattle.compare.proofs.bool_op.Reads as bool-op-reads
-use Rattle.execute.proofs.condition_holds.Reads as condition-holds-reads
 
--- src/lib.rt:199:31
 enum-told : tie.Need-enum-told
 enum-told c = search needs
 
--- src/lib.rt:200:27
 enum-known-c : tie.Need-enum-known-c
 enum-known-c c = search needs
 
--- src/lib.rt:200:61
 condition-holds-requires : tie.Need-condition-holds-requires
 condition-holds-requires c κs = search needs
 
--- src/lib.rt:200:37
 bool-op-requires : tie.Need-bool-op-requires
 bool-op-requires c κs = search needs
 
--- src/lib.rt:195:1
 returns : tie.Need-returns
 unfolding combinedOf
 returns c =
     simp
     (c .enum-told .given .1)
 
--- src/lib.rt:195:1
 returns-2 : tie.Need-returns-2
 unfolding combinedOf
 returns-2 c =
-    simp
-    (c .bool-op .ensures,
-    c .before .condition-holds .ensures,
-    c .before .before .before .c .given .1)
+    simp (
+      c .bool-op .ensures,
+      c .before .condition-holds .ensures,
+      c .before .before .before .c .given .1,
+    )
 
 pub combined-spec : {M : Type 1} → statement M
 combined-spec =

@@ -1,15 +1,10 @@
 use borrow.Author.Needs.{needs}
 use Rattle.execute.proofs.condition_holds.Statement.{statement}
 use Rattle.execute.proofs.condition_holds.Tie as tie
-use Rattle.execute.proofs.condition_holds.Reads as reads
-use Rattle.execute.proofs.condition_holds.Lts as lts
-use Rattle.execute.proofs.get_pred.Reads as get-pred-reads
 
--- src/lib.rt:192:19
 get-pred-requires : tie.Need-get-pred-requires
 get-pred-requires c κs = search needs
 
--- src/lib.rt:189:1
 returns : tie.Need-returns
 returns c =
     simp

@@ -1,49 +1,40 @@
 use borrow.Author.Needs.{needs}
 use Rattle.execute.proofs.do_choice.Statement.{statement}
 use Rattle.execute.proofs.do_choice.Tie as tie
-use Rattle.execute.proofs.do_choice.Reads as reads
-use Rattle.execute.proofs.do_choice.Lts as lts
-use Rattle.execute.proofs.chosen.Reads as chosen-reads
-use Rattle.execute.proofs.operand.Reads as operand-reads
-use Rattle.execute.proofs.put_operand.Reads as put-operand-reads
 
--- src/lib.rt:271:9
 operand-requires : tie.Need-operand-requires
 operand-requires c κs = search needs
 
--- src/lib.rt:272:9
 operand-requires-2 : tie.Need-operand-requires-2
 operand-requires-2 c κs = search needs
 
--- src/lib.rt:273:20
 chosen-requires : tie.Need-chosen-requires
 chosen-requires c κs = search needs
 
--- src/lib.rt:273:5
 put-operand-requires : tie.Need-put-operand-requires
 put-operand-requires c κs = search needs
 
--- src/lib.rt:264:1
 same-length : tie.Need-same-length
 same-length c = search needs
 
--- src/lib.rt:264:1
 same-length-2 : tie.Need-same-length-2
 same-length-2 c = search needs
 
--- src/lib.rt:264:1
 returns : tie.Need-returns
-returns c =
-    (simp
-    (c .before .before .before .before .put-operand .ensures .0,
+returns c = (
+  simp (
+    c .before .before .before .before .put-operand .ensures .0,
     c .before .before .before .before .before .before .before .chosen .ensures,
     c .before .before .before .before .before .before .before .before .operand2 .ensures,
-    c .before .before .before .before .before .before .before .before .before .before .before .operand .ensures),
-    simp
-    (c .before .before .before .before .put-operand .ensures .1,
+    c .before .before .before .before .before .before .before .before .before .before .before .operand .ensures,
+  ),
+  simp (
+    c .before .before .before .before .put-operand .ensures .1,
     c .before .before .before .before .before .before .before .chosen .ensures,
     c .before .before .before .before .before .before .before .before .operand2 .ensures,
-    c .before .before .before .before .before .before .before .before .before .before .before .operand .ensures))
+    c .before .before .before .before .before .before .before .before .before .before .before .operand .ensures,
+  ),
+)
 
 pub do-choice-spec : {M : Type 1} → statement M
 do-choice-spec =

@@ -2,41 +2,31 @@ use Rattle.execute.specs.Mirror.{predsWith}
 use borrow.Author.Needs.{needs}
 use Rattle.execute.proofs.do_setp.Statement.{statement}
 use Rattle.execute.proofs.do_setp.Tie as tie
-use Rattle.execute.proofs.do_setp.Reads as reads
-use Rattle.execute.proofs.do_setp.Lts as lts
-use Rattle.execute.proofs.combined.Reads as combined-reads
-use Rattle.execute.proofs.put_destination.Reads as put-destination-reads
-use Rattle.execute.proofs.test.Reads as test-reads
 
--- src/lib.rt:250:9
 test-requires : tie.Need-test-requires
 test-requires c κs = search needs
 
--- src/lib.rt:251:9
 combined-requires : tie.Need-combined-requires
 combined-requires c κs = search needs
 
--- src/lib.rt:252:9
 combined-requires-2 : tie.Need-combined-requires-2
 combined-requires-2 c κs = search needs
 
--- src/lib.rt:253:5
 put-destination-requires : tie.Need-put-destination-requires
 put-destination-requires c κs = search needs
 
--- src/lib.rt:246:1
 same-length : tie.Need-same-length
 same-length c = search needs
 
--- src/lib.rt:246:1
 returns : tie.Need-returns
 unfolding predsWith
 returns c =
-    simp
-    (c .before .before .put-destination .ensures,
-    c .before .before .before .before .combined2 .ensures,
-    c .before .before .before .before .before .before .combined .ensures,
-    c .before .before .before .before .before .before .before .before .test .ensures)
+    simp (
+      c .before .before .put-destination .ensures,
+      c .before .before .before .before .combined2 .ensures,
+      c .before .before .before .before .before .before .combined .ensures,
+      c .before .before .before .before .before .before .before .before .test .ensures,
+    )
 
 pub do-setp-spec : {M : Type 1} → statement M
 do-setp-spec =

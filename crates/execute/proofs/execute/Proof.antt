@@ -15,66 +15,46 @@ use borrow.Author.Needs.{needs}
 use Rattle.execute.proofs.execute.Statement.{statement}
 use Rattle.execute.proofs.execute.Tie as tie
 use Rattle.execute.proofs.execute.Reads as reads
-use Rattle.execute.proofs.execute.Lts as lts
-use Rattle.execute.proofs.first_refusal.Reads as first-refusal-reads
-use Rattle.execute.proofs.guard_holds.Reads as guard-holds-reads
-use Rattle.execute.proofs.perform.Reads as perform-reads
-use Rattle.execute.proofs.preds_fit.Reads as preds-fit-reads
-use Rattle.execute.proofs.sizes_fit.Reads as sizes-fit-reads
-use Rattle.record.proofs.legal.Reads as legal-reads
 
--- src/lib.rt:367:20
 legal-requires : tie.Need-legal-requires
 legal-requires c κs = search needs
 
--- src/lib.rt:368:18
 sizes-fit-requires : tie.Need-sizes-fit-requires
 sizes-fit-requires c κs = search needs
 
--- src/lib.rt:369:17
 preds-fit-requires : tie.Need-preds-fit-requires
 preds-fit-requires c κs = search needs
 
--- src/lib.rt:370:9
 first-refusal-requires : tie.Need-first-refusal-requires
 first-refusal-requires c κs = search needs
 
--- src/lib.rt:372:9
 same-length : tie.Need-same-length
 same-length c = search needs
 
--- src/lib.rt:372:9
 same-length-2 : tie.Need-same-length-2
 same-length-2 c = search needs
 
--- src/lib.rt:372:9
 same-length-3 : tie.Need-same-length-3
 same-length-3 c = search needs
 
--- src/lib.rt:372:9
 returns : tie.Need-returns
 returns c =
     ends-refused _ _ _
     (simp (c .before .first-refusal .ensures, c .before .before .preds-fit .ensures, c .before .before .before .before .sizes-fit .ensures, c .before .before .before .before .before .before .before .before .legal .ensures))
     (c .if1 .taken)
 
--- src/lib.rt:375:9
 guard-holds-requires : tie.Need-guard-holds-requires
 guard-holds-requires c κs = search needs
 
--- src/lib.rt:376:9
 same-length-4 : tie.Need-same-length-4
 same-length-4 c = search needs
 
--- src/lib.rt:376:9
 same-length-5 : tie.Need-same-length-5
 same-length-5 c = search needs
 
--- src/lib.rt:376:9
 same-length-6 : tie.Need-same-length-6
 same-length-6 c = search needs
 
--- src/lib.rt:376:9
 returns-2 : tie.Need-returns-2
 returns-2 c =
     ends-skipped _ _ _
@@ -82,23 +62,18 @@ returns-2 c =
     (c .before .before .before .if1 .left)
     (failed (c .before .guard-holds .ensures) (c .if2 .taken))
 
--- src/lib.rt:379:5
 perform-requires : tie.Need-perform-requires
 perform-requires c κs = search needs
 
--- src/lib.rt:364:1
 same-length-7 : tie.Need-same-length-7
 same-length-7 c = search needs
 
--- src/lib.rt:364:1
 same-length-8 : tie.Need-same-length-8
 same-length-8 c = search needs
 
--- src/lib.rt:364:1
 same-length-9 : tie.Need-same-length-9
 same-length-9 c = search needs
 
--- src/lib.rt:364:1
 returns-3 : tie.Need-returns-3
 returns-3 c =
     ends-done _ _ _

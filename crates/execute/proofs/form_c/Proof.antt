@@ -1,47 +1,38 @@
 use borrow.Author.Needs.{needs}
 use Rattle.execute.proofs.form_c.Statement.{statement}
 use Rattle.execute.proofs.form_c.Tie as tie
-use Rattle.execute.proofs.form_c.Reads as reads
-use Rattle.execute.proofs.form_c.Lts as lts
-use Rattle.execute.proofs.get_word.Reads as get-word-reads
 
--- src/lib.rt:138:31
 enum-told : tie.Need-enum-told
 enum-told c = search needs
 
--- src/lib.rt:139:23
 enum-known-f : tie.Need-enum-known-f
 enum-known-f c = search needs
 
--- src/lib.rt:139:34
 get-word-requires : tie.Need-get-word-requires
 get-word-requires c κs = search needs
 
--- src/lib.rt:140:25
 enum-known-f-2 : tie.Need-enum-known-f-2
 enum-known-f-2 c = search needs
 
--- src/lib.rt:140:36
 get-word-requires-2 : tie.Need-get-word-requires-2
 get-word-requires-2 c κs = search needs
 
--- src/lib.rt:134:1
 returns : tie.Need-returns
 returns c = search needs
 
--- src/lib.rt:134:1
 returns-2 : tie.Need-returns-2
 returns-2 c =
-    simp
-    (c .get-word .ensures,
-    c .before .before .f .given .1)
+    simp (
+      c .get-word .ensures,
+      c .before .before .f .given .1,
+    )
 
--- src/lib.rt:134:1
 returns-3 : tie.Need-returns-3
 returns-3 c =
-    simp
-    (c .get-word2 .ensures,
-    c .before .before .f2 .given .1)
+    simp (
+      c .get-word2 .ensures,
+      c .before .before .f2 .given .1,
+    )
 
 pub form-c-spec : {M : Type 1} → statement M
 form-c-spec =

@@ -4,26 +4,19 @@ use borrow.Author.Tests.{le-ltb}
 use borrow.Author.Needs.{needs}
 use Rattle.execute.proofs.get_double.Statement.{statement}
 use Rattle.execute.proofs.get_double.Tie as tie
-use Rattle.execute.proofs.get_double.Reads as reads
-use Rattle.execute.proofs.get_double.Lts as lts
 
--- src/lib.rt:52:13
 cast-i : tie.Need-cast-i
 cast-i c = search needs
 
--- src/lib.rt:53:28
 mul-result : tie.Need-mul-result
 mul-result c = search needs
 
--- src/lib.rt:53:28
 shared-slice-read-result : tie.Need-shared-slice-read-result
 shared-slice-read-result c = search needs
 
--- src/lib.rt:49:1
 returns : tie.Need-returns
 returns c = search needs
 
--- src/lib.rt:49:1
 returns-2 : tie.Need-returns-2
 returns-2 c =
     getD-past (now (c .before .before .args .doubles)) (c .before .before .args .d .0) (c .if1 .left)

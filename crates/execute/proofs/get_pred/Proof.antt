@@ -4,22 +4,16 @@ use borrow.Author.Tests.{le-ltb}
 use borrow.Author.Needs.{needs}
 use Rattle.execute.proofs.get_pred.Statement.{statement}
 use Rattle.execute.proofs.get_pred.Tie as tie
-use Rattle.execute.proofs.get_pred.Reads as reads
-use Rattle.execute.proofs.get_pred.Lts as lts
 
--- src/lib.rt:59:13
 cast-i : tie.Need-cast-i
 cast-i c = search needs
 
--- src/lib.rt:60:26
 shared-slice-read-result : tie.Need-shared-slice-read-result
 shared-slice-read-result c = search needs
 
--- src/lib.rt:56:1
 returns : tie.Need-returns
 returns c = search needs
 
--- src/lib.rt:56:1
 returns-2 : tie.Need-returns-2
 returns-2 c =
     getD-past (now (c .before .before .args .preds)) (c .before .before .args .p .0) (c .if1 .left)

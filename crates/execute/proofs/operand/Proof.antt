@@ -1,46 +1,36 @@
 use borrow.Author.Needs.{needs}
 use Rattle.execute.proofs.operand.Statement.{statement}
 use Rattle.execute.proofs.operand.Tie as tie
-use Rattle.execute.proofs.operand.Reads as reads
-use Rattle.execute.proofs.operand.Lts as lts
-use Rattle.execute.proofs.get_double.Reads as get-double-reads
-use Rattle.execute.proofs.get_word.Reads as get-word-reads
-use Rattle.execute.proofs.widened.Reads as widened-reads
 
--- src/lib.rt:102:23
 enum-known-o : tie.Need-enum-known-o
 enum-known-o c = search needs
 
--- src/lib.rt:102:37
 get-word-requires : tie.Need-get-word-requires
 get-word-requires c κs = search needs
 
--- src/lib.rt:102:29
 widened-requires : tie.Need-widened-requires
 widened-requires c κs = search needs
 
--- src/lib.rt:103:25
 enum-known-o-2 : tie.Need-enum-known-o-2
 enum-known-o-2 c = search needs
 
--- src/lib.rt:103:31
 get-double-requires : tie.Need-get-double-requires
 get-double-requires c κs = search needs
 
--- src/lib.rt:98:1
 returns : tie.Need-returns
 returns c =
-    simp
-    (c .widened .ensures,
-    c .before .get-word .ensures,
-    c .before .before .before .o .given .1)
+    simp (
+      c .widened .ensures,
+      c .before .get-word .ensures,
+      c .before .before .before .o .given .1,
+    )
 
--- src/lib.rt:98:1
 returns-2 : tie.Need-returns-2
 returns-2 c =
-    simp
-    (c .get-double .ensures,
-    c .before .before .o2 .given .1)
+    simp (
+      c .get-double .ensures,
+      c .before .before .o2 .given .1,
+    )
 
 pub operand-spec : {M : Type 1} → statement M
 operand-spec =

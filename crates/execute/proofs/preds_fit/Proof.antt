@@ -6,8 +6,6 @@ use lib.ListN.{length, drop}
 use mathlib.Core.Path.{_≡_, refl, sym, _∙_}
 use Rattle.execute.proofs.preds_fit.Statement.{statement}
 use Rattle.execute.proofs.preds_fit.Tie as tie
-use Rattle.execute.proofs.preds_fit.Reads as reads
-use Rattle.execute.proofs.preds_fit.Lts as lts
 
 abbrev Inv-loop : tie.InvT-loop
 Inv-loop preds i₀ i = (i ≤ length preds) × (predsFit preds ≡ predsFit (drop i preds))
@@ -15,31 +13,24 @@ Inv-loop preds i₀ i = (i ≤ length preds) × (predsFit preds ≡ predsFit (dr
 abbrev μ-loop : tie.MeasureT-loop
 μ-loop preds i₀ i = length preds - i
 
--- src/lib.rt:73:5
 loop-holds : tie.Need-loop-holds Inv-loop μ-loop
 loop-holds c = (omega arith, refl)
 
--- src/lib.rt:74:16
 shared-slice-read-if1 : tie.Need-shared-slice-read-if1 Inv-loop μ-loop
 shared-slice-read-if1 c = omega arith
 
--- src/lib.rt:75:13
 returns : tie.Need-returns Inv-loop μ-loop
 returns c = bits-high _ _ (c .before .before .loop-test .taken) (c .if1 .taken) (c .before .before .before .loop .inv .1)
 
--- src/lib.rt:77:9
 add-i : tie.Need-add-i Inv-loop μ-loop
 add-i c = omega arith
 
--- src/lib.rt:73:5
 loop-less : tie.Need-loop-less Inv-loop μ-loop
 loop-less c = omega arith
 
--- src/lib.rt:73:5
 loop-again : tie.Need-loop-again Inv-loop μ-loop
 loop-again c = (omega arith, bits-low _ _ (c .before .before .loop-test .taken) (c .if1 .left) (c .before .before .before .loop .inv .1))
 
--- src/lib.rt:69:1
 returns-2 : tie.Need-returns-2 Inv-loop μ-loop
 returns-2 c = bits-end _ _ (c .loop-test .left) ∙ sym (c .before .loop .inv .1)
 

@@ -3,58 +3,48 @@ use Rattle.execute.specs.Mirror.{doublesWith}
 use borrow.Author.Needs.{needs}
 use Rattle.execute.proofs.put_operand.Statement.{statement}
 use Rattle.execute.proofs.put_operand.Tie as tie
-use Rattle.execute.proofs.put_operand.Reads as reads
-use Rattle.execute.proofs.put_operand.Lts as lts
-use Rattle.execute.proofs.low_word.Reads as low-word-reads
-use Rattle.execute.proofs.put_double.Reads as put-double-reads
-use Rattle.execute.proofs.put_word.Reads as put-word-reads
 
--- src/lib.rt:118:23
 enum-known-o : tie.Need-enum-known-o
 enum-known-o c = search needs
 
--- src/lib.rt:118:48
 low-word-requires : tie.Need-low-word-requires
 low-word-requires c κs = search needs
 
--- src/lib.rt:118:29
 put-word-requires : tie.Need-put-word-requires
 put-word-requires c κs = search needs
 
--- src/lib.rt:119:25
 enum-known-o-2 : tie.Need-enum-known-o-2
 enum-known-o-2 c = search needs
 
--- src/lib.rt:119:31
 put-double-requires : tie.Need-put-double-requires
 put-double-requires c κs = search needs
 
--- src/lib.rt:113:1
 same-length : tie.Need-same-length
 same-length c = search needs
 
--- src/lib.rt:113:1
 returns : tie.Need-returns
 unfolding wordsWith doublesWith
-returns c =
-    (simp
-    (c .before .before .put-word .ensures,
+returns c = (
+  simp (
+    c .before .before .put-word .ensures,
     c .before .before .before .low-word .ensures,
-    c .before .before .before .before .before .before .o .given .1),
-    simp (c .before .before .before .before .before .before .o .given .1))
+    c .before .before .before .before .before .before .o .given .1,
+  ),
+  simp (c .before .before .before .before .before .before .o .given .1),
+)
 
--- src/lib.rt:113:1
 same-length-2 : tie.Need-same-length-2
 same-length-2 c = search needs
 
--- src/lib.rt:113:1
 returns-2 : tie.Need-returns-2
 unfolding wordsWith doublesWith
-returns-2 c =
-    (simp (c .before .before .before .before .before .o2 .given .1),
-    simp
-    (c .before .before .put-double .ensures,
-    c .before .before .before .before .before .o2 .given .1))
+returns-2 c = (
+  simp (c .before .before .before .before .before .o2 .given .1),
+  simp (
+    c .before .before .put-double .ensures,
+    c .before .before .before .before .before .o2 .given .1,
+  ),
+)
 
 pub put-operand-spec : {M : Type 1} → statement M
 put-operand-spec =

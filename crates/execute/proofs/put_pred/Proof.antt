@@ -4,26 +4,19 @@ use borrow.Author.Tests.{le-ltb}
 use borrow.Author.Needs.{needs}
 use Rattle.execute.proofs.put_pred.Statement.{statement}
 use Rattle.execute.proofs.put_pred.Tie as tie
-use Rattle.execute.proofs.put_pred.Reads as reads
-use Rattle.execute.proofs.put_pred.Lts as lts
 
--- src/lib.rt:84:13
 cast-i : tie.Need-cast-i
 cast-i c = search needs
 
--- src/lib.rt:86:9
 slice-write-preds : tie.Need-slice-write-preds
 slice-write-preds c = search needs
 
--- src/lib.rt:81:1
 same-length : tie.Need-same-length
 same-length c = search needs
 
--- src/lib.rt:81:1
 returns : tie.Need-returns
 returns c = search needs
 
--- src/lib.rt:81:1
 returns-2 : tie.Need-returns-2
 returns-2 c =
     set-past (now (c .before .before .args .preds)) (c .before .before .args .p .0) (c .before .before .args .v) (c .if1 .left)

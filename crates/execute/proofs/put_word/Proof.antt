@@ -4,30 +4,22 @@ use borrow.Author.Tests.{le-ltb}
 use borrow.Author.Needs.{needs}
 use Rattle.execute.proofs.put_word.Statement.{statement}
 use Rattle.execute.proofs.put_word.Tie as tie
-use Rattle.execute.proofs.put_word.Reads as reads
-use Rattle.execute.proofs.put_word.Lts as lts
 
--- src/lib.rt:66:13
 cast-i : tie.Need-cast-i
 cast-i c = search needs
 
--- src/lib.rt:68:9
 mul-words : tie.Need-mul-words
 mul-words c = search needs
 
--- src/lib.rt:68:9
 slice-write-words : tie.Need-slice-write-words
 slice-write-words c = search needs
 
--- src/lib.rt:63:1
 same-length : tie.Need-same-length
 same-length c = search needs
 
--- src/lib.rt:63:1
 returns : tie.Need-returns
 returns c = search needs
 
--- src/lib.rt:63:1
 returns-2 : tie.Need-returns-2
 returns-2 c =
     set-past (now (c .before .before .args .words)) (c .before .before .args .w .0) (c .before .before .args .v) (c .if1 .left)

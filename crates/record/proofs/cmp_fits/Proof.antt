@@ -1,76 +1,58 @@
 use borrow.Author.Needs.{needs}
 use Rattle.record.proofs.cmp_fits.Statement.{statement}
 use Rattle.record.proofs.cmp_fits.Tie as tie
-use Rattle.record.proofs.cmp_fits.Reads as reads
-use Rattle.record.proofs.cmp_fits.Lts as lts
-use Rattle.record.proofs.is_eq_ne.Reads as is-eq-ne-reads
-use Rattle.record.proofs.is_float_op.Reads as is-float-op-reads
-use Rattle.record.proofs.is_six.Reads as is-six-reads
-use Rattle.record.proofs.is_unsigned_op.Reads as is-unsigned-op-reads
 
--- src/lib.rt:376:20
 enum-told : tie.Need-enum-told
 enum-told c = search needs
 
--- src/lib.rt:376:20
 is-eq-ne-requires : tie.Need-is-eq-ne-requires
 is-eq-ne-requires c κs = search needs
 
--- src/lib.rt:377:20
 enum-told-2 : tie.Need-enum-told-2
 enum-told-2 c = search needs
 
--- src/lib.rt:377:20
 is-six-requires : tie.Need-is-six-requires
 is-six-requires c κs = search needs
 
--- src/lib.rt:378:20
 enum-told-3 : tie.Need-enum-told-3
 enum-told-3 c = search needs
 
--- src/lib.rt:378:20
 is-six-requires-2 : tie.Need-is-six-requires-2
 is-six-requires-2 c κs = search needs
 
--- src/lib.rt:378:32
 is-unsigned-op-requires : tie.Need-is-unsigned-op-requires
 is-unsigned-op-requires c κs = search needs
 
--- src/lib.rt:379:20
 enum-told-4 : tie.Need-enum-told-4
 enum-told-4 c = search needs
 
--- src/lib.rt:379:20
 is-six-requires-3 : tie.Need-is-six-requires-3
 is-six-requires-3 c κs = search needs
 
--- src/lib.rt:379:32
 is-float-op-requires : tie.Need-is-float-op-requires
 is-float-op-requires c κs = search needs
 
--- src/lib.rt:372:1
 returns : tie.Need-returns
 returns c = search needs
 
--- src/lib.rt:372:1
 returns-2 : tie.Need-returns-2
 returns-2 c = search needs
 
--- src/lib.rt:372:1
 returns-3 : tie.Need-returns-3
 returns-3 c =
-    simp
-    (c .is-unsigned-op .ensures,
-    c .before .is-six2 .ensures,
-    c .before .before .enum-told3 .given .1)
+    simp (
+      c .is-unsigned-op .ensures,
+      c .before .is-six2 .ensures,
+      c .before .before .enum-told3 .given .1,
+    )
 
--- src/lib.rt:372:1
 returns-4 : tie.Need-returns-4
 returns-4 c =
-    simp
-    (c .is-float-op .ensures,
-    c .before .is-six3 .ensures,
-    c .before .before .enum-told4 .given .1)
+    simp (
+      c .is-float-op .ensures,
+      c .before .is-six3 .ensures,
+      c .before .before .enum-told4 .given .1,
+    )
 
 pub cmp-fits-spec : {M : Type 1} → statement M
 cmp-fits-spec =

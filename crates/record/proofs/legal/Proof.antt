@@ -26,11 +26,12 @@ pair-apart-requires c κs = search needs
 returns : tie.Need-returns
 unfolding isLegal
 returns c =
-    simp
-    (c .pair-apart .ensures,
-    c .before .numbers-in-range .ensures,
-    c .before .before .operands-fit .ensures,
-    c .before .before .before .modifiers-fit .ensures)
+    simp (
+      c .pair-apart .ensures,
+      c .before .numbers-in-range .ensures,
+      c .before .before .operands-fit .ensures,
+      c .before .before .before .modifiers-fit .ensures,
+    )
 
 pub legal-spec : {M : Type 1} → statement M
 legal-spec =

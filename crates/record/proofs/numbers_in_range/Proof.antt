@@ -18,9 +18,10 @@ instruction-in-range-requires c κs = search needs
 
 returns : tie.Need-returns
 returns c =
-    simp
-    (c .instruction-in-range .ensures,
-    c .before .guard-in-range .ensures)
+    simp (
+      c .instruction-in-range .ensures,
+      c .before .guard-in-range .ensures,
+    )
 
 pub numbers-in-range-spec : {M : Type 1} → statement M
 numbers-in-range-spec =

@@ -5,83 +5,60 @@ use borrow.Author.Tests.{le-ltb, lt-ltb}
 use borrow.Author.Needs.{needs}
 use Rattle.video.proofs.apply.Statement.{statement}
 use Rattle.video.proofs.apply.Tie as tie
-use Rattle.video.proofs.apply.Reads as reads
-use Rattle.video.proofs.apply.Lts as lts
-use Rattle.video.proofs.difference.Reads as difference-reads
-use Rattle.video.proofs.least.Reads as least-reads
-use Rattle.video.proofs.most.Reads as most-reads
-use Rattle.video.proofs.sum.Reads as sum-reads
 
--- src/lib.rt:161:24
 enum-told : tie.Need-enum-told
 enum-told c = search needs
 
--- src/lib.rt:161:24
 sum-requires : tie.Need-sum-requires
 sum-requires c κs = search needs
 
--- src/lib.rt:162:24
 enum-told-2 : tie.Need-enum-told-2
 enum-told-2 c = search needs
 
--- src/lib.rt:162:24
 difference-requires : tie.Need-difference-requires
 difference-requires c κs = search needs
 
--- src/lib.rt:164:16
 enum-told-3 : tie.Need-enum-told-3
 enum-told-3 c = search needs
 
--- src/lib.rt:165:17
 difference-requires-2 : tie.Need-difference-requires-2
 difference-requires-2 c κs = search needs
 
--- src/lib.rt:165:17
 returns : tie.Need-returns
 returns c =
     rw (c .before .before .enum-told3 .given .1, un-lt bias _ _, lt-ltb _ _ (c .before .if1 .taken)) (c .difference2 .ensures)
 
--- src/lib.rt:167:13
 difference-requires-3 : tie.Need-difference-requires-3
 difference-requires-3 c κs = search needs
 
--- src/lib.rt:169:24
 enum-told-4 : tie.Need-enum-told-4
 enum-told-4 c = search needs
 
--- src/lib.rt:169:24
 least-requires : tie.Need-least-requires
 least-requires c κs = search needs
 
--- src/lib.rt:170:24
 enum-told-5 : tie.Need-enum-told-5
 enum-told-5 c = search needs
 
--- src/lib.rt:170:24
 most-requires : tie.Need-most-requires
 most-requires c κs = search needs
 
--- src/lib.rt:156:1
 returns-2 : tie.Need-returns-2
 returns-2 c =
     (rw (c .before .enum-told .given .1) (c .sum .ensures .0), omega arith)
 
--- src/lib.rt:156:1
 returns-3 : tie.Need-returns-3
 returns-3 c =
     rw (c .before .enum-told2 .given .1) (c .difference .ensures)
 
--- src/lib.rt:156:1
 returns-4 : tie.Need-returns-4
 returns-4 c =
     rw (c .before .before .enum-told3 .given .1, un-lt bias _ _, le-ltb _ _ (c .before .if1 .left)) (c .difference3 .ensures)
 
--- src/lib.rt:156:1
 returns-5 : tie.Need-returns-5
 returns-5 c =
     rw (c .before .enum-told4 .given .1) (c .least .ensures)
 
--- src/lib.rt:156:1
 returns-6 : tie.Need-returns-6
 returns-6 c =
     rw (c .before .enum-told5 .given .1) (c .most .ensures)

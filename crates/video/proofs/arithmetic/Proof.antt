@@ -35,14 +35,15 @@ formed-requires c κs = search needs
 returns : tie.Need-returns
 unfolding arithmeticOf
 returns c =
-    simp
-    (c .formed .ensures,
-    c .before .clamped .ensures .0,
-    c .before .before .form-size .ensures .0,
-    c .before .before .before .apply .ensures .0,
-    c .before .before .before .before .selected2 .ensures .0,
-    c .before .before .before .before .before .selected .ensures .0,
-    c .before .before .before .before .before .before .signed .ensures)
+    simp (
+      c .formed .ensures,
+      c .before .clamped .ensures .0,
+      c .before .before .form-size .ensures .0,
+      c .before .before .before .apply .ensures .0,
+      c .before .before .before .before .selected2 .ensures .0,
+      c .before .before .before .before .before .selected .ensures .0,
+      c .before .before .before .before .before .before .signed .ensures,
+    )
 
 pub arithmetic-spec : {M : Type 1} → statement M
 arithmetic-spec =

@@ -1,40 +1,31 @@
 use borrow.Author.Needs.{needs}
 use Rattle.video.proofs.clamped.Statement.{statement}
 use Rattle.video.proofs.clamped.Tie as tie
-use Rattle.video.proofs.clamped.Reads as reads
-use Rattle.video.proofs.clamped.Lts as lts
-use Rattle.video.proofs.highest.Reads as highest-reads
-use Rattle.video.proofs.least.Reads as least-reads
-use Rattle.video.proofs.lowest.Reads as lowest-reads
-use Rattle.video.proofs.most.Reads as most-reads
 
--- src/lib.rt:202:30
 lowest-requires : tie.Need-lowest-requires
 lowest-requires c κs = search needs
 
--- src/lib.rt:202:22
 most-requires : tie.Need-most-requires
 most-requires c κs = search needs
 
--- src/lib.rt:202:50
 highest-requires : tie.Need-highest-requires
 highest-requires c κs = search needs
 
--- src/lib.rt:202:9
 least-requires : tie.Need-least-requires
 least-requires c κs = search needs
 
--- src/lib.rt:202:9
 returns : tie.Need-returns
-returns c =
-    (simp
-    (c .least .ensures .0,
+returns c = (
+  simp (
+    c .least .ensures .0,
     c .before .highest .ensures .0,
     c .before .before .most .ensures .0,
     c .before .before .before .lowest .ensures .0,
-    c .before .before .before .before .if1 .taken), c .least .ensures .1)
+    c .before .before .before .before .if1 .taken,
+  ),
+  c .least .ensures .1,
+)
 
--- src/lib.rt:196:1
 returns-2 : tie.Need-returns-2
 returns-2 c =
     (rw (c .if1 .left), search needs)

@@ -1,56 +1,45 @@
 use borrow.Author.Needs.{needs}
 use Rattle.video.proofs.combine.Statement.{statement}
 use Rattle.video.proofs.combine.Tie as tie
-use Rattle.video.proofs.combine.Reads as reads
-use Rattle.video.proofs.combine.Lts as lts
-use Rattle.video.proofs.least.Reads as least-reads
-use Rattle.video.proofs.most.Reads as most-reads
-use Rattle.video.proofs.sum.Reads as sum-reads
 
--- src/lib.rt:212:21
 enum-told : tie.Need-enum-told
 enum-told c = search needs
 
--- src/lib.rt:212:21
 sum-requires : tie.Need-sum-requires
 sum-requires c κs = search needs
 
--- src/lib.rt:213:21
 enum-told-2 : tie.Need-enum-told-2
 enum-told-2 c = search needs
 
--- src/lib.rt:213:21
 least-requires : tie.Need-least-requires
 least-requires c κs = search needs
 
--- src/lib.rt:214:21
 enum-told-3 : tie.Need-enum-told-3
 enum-told-3 c = search needs
 
--- src/lib.rt:214:21
 most-requires : tie.Need-most-requires
 most-requires c κs = search needs
 
--- src/lib.rt:207:1
 returns : tie.Need-returns
 returns c =
-    simp
-    (c .sum .ensures .0,
-    c .before .enum-told .given .1)
+    simp (
+      c .sum .ensures .0,
+      c .before .enum-told .given .1,
+    )
 
--- src/lib.rt:207:1
 returns-2 : tie.Need-returns-2
 returns-2 c =
-    simp
-    (c .least .ensures .0,
-    c .before .enum-told2 .given .1)
+    simp (
+      c .least .ensures .0,
+      c .before .enum-told2 .given .1,
+    )
 
--- src/lib.rt:207:1
 returns-3 : tie.Need-returns-3
 returns-3 c =
-    simp
-    (c .most .ensures .0,
-    c .before .enum-told3 .given .1)
+    simp (
+      c .most .ensures .0,
+      c .before .enum-told3 .given .1,
+    )
 
 pub combine-spec : {M : Type 1} → statement M
 combine-spec =

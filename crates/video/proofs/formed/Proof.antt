@@ -2,88 +2,68 @@ use Rattle.rules.specs.Execution.{formOf}
 use borrow.Author.Needs.{needs}
 use Rattle.video.proofs.formed.Statement.{statement}
 use Rattle.video.proofs.formed.Tie as tie
-use Rattle.video.proofs.formed.Reads as reads
-use Rattle.video.proofs.formed.Lts as lts
-use Rattle.video.proofs.combine.Reads as combine-reads
-use Rattle.video.proofs.low.Reads as low-reads
-use Rattle.video.proofs.low_part.Reads as low-part-reads
-use Rattle.video.proofs.number.Reads as number-reads
-use Rattle.video.proofs.replace.Reads as replace-reads
-use Rattle.video.proofs.selector_part.Reads as selector-part-reads
-use Rattle.video.proofs.selector_width.Reads as selector-width-reads
 
--- src/lib.rt:302:31
 enum-told : tie.Need-enum-told
 enum-told c = search needs
 
--- src/lib.rt:302:31
 low-requires : tie.Need-low-requires
 low-requires c κs = search needs
 
--- src/lib.rt:303:23
 enum-known-f : tie.Need-enum-known-f
 enum-known-f c = search needs
 
--- src/lib.rt:304:17
 selector-width-requires : tie.Need-selector-width-requires
 selector-width-requires c κs = search needs
 
--- src/lib.rt:305:24
 selector-part-requires : tie.Need-selector-part-requires
 selector-part-requires c κs = search needs
 
--- src/lib.rt:305:47
 low-part-requires : tie.Need-low-part-requires
 low-part-requires c κs = search needs
 
--- src/lib.rt:305:13
 replace-requires : tie.Need-replace-requires
 replace-requires c κs = search needs
 
--- src/lib.rt:307:25
 enum-known-f-2 : tie.Need-enum-known-f-2
 enum-known-f-2 c = search needs
 
--- src/lib.rt:307:56
 number-requires : tie.Need-number-requires
 number-requires c κs = search needs
 
--- src/lib.rt:307:41
 combine-requires : tie.Need-combine-requires
 combine-requires c κs = search needs
 
--- src/lib.rt:307:37
 low-requires-2 : tie.Need-low-requires-2
 low-requires-2 c κs = search needs
 
--- src/lib.rt:297:1
 returns : tie.Need-returns
 unfolding formOf
 returns c =
-    simp
-    (c .low .ensures,
-    c .before .enum-told .given .1)
+    simp (
+      c .low .ensures,
+      c .before .enum-told .given .1,
+    )
 
--- src/lib.rt:297:1
 returns-2 : tie.Need-returns-2
 unfolding formOf
 returns-2 c =
-    simp
-    (c .replace .ensures,
-    c .before .low-part .ensures .0,
-    c .before .before .selector-part .ensures,
-    c .before .before .before .selector-width .ensures,
-    c .before .before .before .before .before .f .given .1)
+    simp (
+      c .replace .ensures,
+      c .before .low-part .ensures .0,
+      c .before .before .selector-part .ensures,
+      c .before .before .before .selector-width .ensures,
+      c .before .before .before .before .before .f .given .1,
+    )
 
--- src/lib.rt:297:1
 returns-3 : tie.Need-returns-3
 unfolding formOf
 returns-3 c =
-    simp
-    (c .low2 .ensures,
-    c .before .combine .ensures,
-    c .before .before .number .ensures .0,
-    c .before .before .before .before .f2 .given .1)
+    simp (
+      c .low2 .ensures,
+      c .before .combine .ensures,
+      c .before .before .number .ensures .0,
+      c .before .before .before .before .f2 .given .1,
+    )
 
 pub formed-spec : {M : Type 1} → statement M
 formed-spec =

@@ -2,89 +2,68 @@ use Rattle.rules.specs.Execution.{laneHolds}
 use borrow.Author.Needs.{needs}
 use Rattle.video.proofs.held.Statement.{statement}
 use Rattle.video.proofs.held.Tie as tie
-use Rattle.video.proofs.held.Reads as reads
-use Rattle.video.proofs.held.Lts as lts
-use Rattle.video.proofs.lane_holds.Reads as lane-holds-reads
-use Rattle.video.proofs.picked.Reads as picked-reads
-use Rattle.video.proofs.signed.Reads as signed-reads
 
--- src/lib.rt:396:9
 signed-requires : tie.Need-signed-requires
 signed-requires c κs = search needs
 
--- src/lib.rt:397:9
 signed-requires-2 : tie.Need-signed-requires-2
 signed-requires-2 c κs = search needs
 
--- src/lib.rt:398:13
 picked-requires : tie.Need-picked-requires
 picked-requires c κs = search needs
 
--- src/lib.rt:399:13
 picked-requires-2 : tie.Need-picked-requires-2
 picked-requires-2 c κs = search needs
 
--- src/lib.rt:401:36
 array-read-lane-holds : tie.Need-array-read-lane-holds
 array-read-lane-holds c = search needs
 
--- src/lib.rt:401:42
 array-read-lane-holds-2 : tie.Need-array-read-lane-holds-2
 array-read-lane-holds-2 c = search needs
 
--- src/lib.rt:401:9
 lane-holds-requires : tie.Need-lane-holds-requires
 lane-holds-requires c κs = search needs
 
--- src/lib.rt:402:36
 array-read-lane-holds-3 : tie.Need-array-read-lane-holds-3
 array-read-lane-holds-3 c = search needs
 
--- src/lib.rt:402:42
 array-read-lane-holds-4 : tie.Need-array-read-lane-holds-4
 array-read-lane-holds-4 c = search needs
 
--- src/lib.rt:402:9
 lane-holds-requires-2 : tie.Need-lane-holds-requires-2
 lane-holds-requires-2 c κs = search needs
 
--- src/lib.rt:403:36
 array-read-lane-holds-5 : tie.Need-array-read-lane-holds-5
 array-read-lane-holds-5 c = search needs
 
--- src/lib.rt:403:42
 array-read-lane-holds-6 : tie.Need-array-read-lane-holds-6
 array-read-lane-holds-6 c = search needs
 
--- src/lib.rt:403:9
 lane-holds-requires-3 : tie.Need-lane-holds-requires-3
 lane-holds-requires-3 c κs = search needs
 
--- src/lib.rt:404:36
 array-read-lane-holds-7 : tie.Need-array-read-lane-holds-7
 array-read-lane-holds-7 c = search needs
 
--- src/lib.rt:404:42
 array-read-lane-holds-8 : tie.Need-array-read-lane-holds-8
 array-read-lane-holds-8 c = search needs
 
--- src/lib.rt:404:9
 lane-holds-requires-4 : tie.Need-lane-holds-requires-4
 lane-holds-requires-4 c κs = search needs
 
--- src/lib.rt:390:1
 returns : tie.Need-returns
 unfolding laneHolds
 returns c =
-    simp
-    (c .lane-holds4 .ensures,
-    c .before .lane-holds3 .ensures,
-    c .before .before .lane-holds2 .ensures,
-    c .before .before .before .lane-holds .ensures,
-    c .before .before .before .before .picked2 .ensures,
-    c .before .before .before .before .before .picked .ensures,
-    c .before .before .before .before .before .before .signed2 .ensures,
-    c .before .before .before .before .before .before .before .signed .ensures)
+    simp (
+      c .lane-holds4 .ensures,
+      c .before .lane-holds3 .ensures,
+      c .before .before .lane-holds2 .ensures,
+      c .before .before .before .lane-holds .ensures,
+      c .before .before .before .before .picked2 .ensures,
+      c .before .before .before .before .before .picked .ensures,
+      c .before .before .before .before .before .before .signed2 .ensures,
+      c .before .before .before .before .before .before .before .signed .ensures,
+    )
 
 pub held-spec : {M : Type 1} → statement M
 held-spec =

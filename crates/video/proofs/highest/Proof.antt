@@ -5,31 +5,23 @@ use Prim.Native.Nat.{_-_, _/_}
 use borrow.Author.Needs.{needs}
 use Rattle.video.proofs.highest.Statement.{statement}
 use Rattle.video.proofs.highest.Tie as tie
-use Rattle.video.proofs.highest.Reads as reads
-use Rattle.video.proofs.highest.Lts as lts
 
--- src/lib.rt:190:9
 sub-result : tie.Need-sub-result
 sub-result c = search needs
 
--- src/lib.rt:190:9
 add-result : tie.Need-add-result
 add-result c = search needs
 
--- src/lib.rt:192:9
 sub-result-2 : tie.Need-sub-result-2
 sub-result-2 c = search needs
 
--- src/lib.rt:192:9
 add-result-2 : tie.Need-add-result-2
 add-result-2 c = search needs
 
--- src/lib.rt:185:1
 returns : tie.Need-returns
 returns c =
     (rw (c .if1 .taken) (un-up bias (c .before .args .n / 2 - 1)), omega arith)
 
--- src/lib.rt:185:1
 returns-2 : tie.Need-returns-2
 returns-2 c =
     (rw (c .if1 .left) (un-up bias (c .before .args .n - 1)), omega arith)

@@ -6,64 +6,50 @@ use mathlib.Core.Path.{sym, ap}
 use borrow.Author.Needs.{needs}
 use Rattle.video.proofs.holds.Statement.{statement}
 use Rattle.video.proofs.holds.Tie as tie
-use Rattle.video.proofs.holds.Reads as reads
-use Rattle.video.proofs.holds.Lts as lts
 
--- src/lib.rt:117:21
 enum-told : tie.Need-enum-told
 enum-told c = search needs
 
--- src/lib.rt:118:21
 enum-told-2 : tie.Need-enum-told-2
 enum-told-2 c = search needs
 
--- src/lib.rt:119:21
 enum-told-3 : tie.Need-enum-told-3
 enum-told-3 c = search needs
 
--- src/lib.rt:120:21
 enum-told-4 : tie.Need-enum-told-4
 enum-told-4 c = search needs
 
--- src/lib.rt:121:21
 enum-told-5 : tie.Need-enum-told-5
 enum-told-5 c = search needs
 
--- src/lib.rt:122:21
 enum-told-6 : tie.Need-enum-told-6
 enum-told-6 c = search needs
 
--- src/lib.rt:113:1
 returns : tie.Need-returns
 unfolding holdsZ
 returns c =
     rw (c .enum-told .given .1) (sym (un-eq bias (c .before .before .args .x) (c .before .before .args .y)))
 
--- src/lib.rt:113:1
 returns-2 : tie.Need-returns-2
 unfolding holdsZ
 returns-2 c =
     rw (c .enum-told2 .given .1) (ap not (sym (un-eq bias (c .before .before .args .x) (c .before .before .args .y))))
 
--- src/lib.rt:113:1
 returns-3 : tie.Need-returns-3
 unfolding holdsZ
 returns-3 c =
     rw (c .enum-told3 .given .1) (sym (un-lt bias (c .before .before .args .x) (c .before .before .args .y)))
 
--- src/lib.rt:113:1
 returns-4 : tie.Need-returns-4
 unfolding holdsZ
 returns-4 c =
     rw (c .enum-told4 .given .1) (sym (un-le bias (c .before .before .args .x) (c .before .before .args .y)))
 
--- src/lib.rt:113:1
 returns-5 : tie.Need-returns-5
 unfolding holdsZ
 returns-5 c =
     rw (c .enum-told5 .given .1) (sym (un-lt bias (c .before .before .args .y) (c .before .before .args .x)))
 
--- src/lib.rt:113:1
 returns-6 : tie.Need-returns-6
 unfolding holdsZ
 returns-6 c =

@@ -4,15 +4,11 @@ use Rattle.video.specs.Exact.{bias}
 use borrow.Author.Tests.{le-ltb, lt-ltb}
 use Rattle.video.proofs.least.Statement.{statement}
 use Rattle.video.proofs.least.Tie as tie
-use Rattle.video.proofs.least.Reads as reads
-use Rattle.video.proofs.least.Lts as lts
 
--- src/lib.rt:126:1
 returns : tie.Need-returns
 returns c =
     (rw (un-lt bias _ _, lt-ltb _ _ (c .if1 .taken)), search needs)
 
--- src/lib.rt:126:1
 returns-2 : tie.Need-returns-2
 returns-2 c =
     (rw (un-lt bias _ _, le-ltb _ _ (c .if1 .left)), search needs)

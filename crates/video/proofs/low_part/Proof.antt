@@ -4,31 +4,23 @@ use native.Mathlib.Omega.{arith}
 use borrow.Author.Needs.{needs}
 use Rattle.video.proofs.low_part.Statement.{statement}
 use Rattle.video.proofs.low_part.Tie as tie
-use Rattle.video.proofs.low_part.Reads as reads
-use Rattle.video.proofs.low_part.Lts as lts
 
--- src/lib.rt:229:25
 enum-told : tie.Need-enum-told
 enum-told c = search needs
 
--- src/lib.rt:229:24
 cast-result : tie.Need-cast-result
 cast-result c = search needs
 
--- src/lib.rt:230:25
 enum-told-2 : tie.Need-enum-told-2
 enum-told-2 c = search needs
 
--- src/lib.rt:230:24
 cast-result-2 : tie.Need-cast-result-2
 cast-result-2 c = search needs
 
--- src/lib.rt:225:1
 returns : tie.Need-returns
 returns c =
     rw (c .enum-told .given .1) (low-lane (c .before .before .args .z) Half, omega arith)
 
--- src/lib.rt:225:1
 returns-2 : tie.Need-returns-2
 returns-2 c =
     rw (c .enum-told2 .given .1) (low-lane (c .before .before .args .z) Byte, omega arith)

@@ -5,19 +5,14 @@ use native.Mathlib.Omega.{arith}
 use borrow.Author.Needs.{needs}
 use Rattle.video.proofs.lowest.Statement.{statement}
 use Rattle.video.proofs.lowest.Tie as tie
-use Rattle.video.proofs.lowest.Reads as reads
-use Rattle.video.proofs.lowest.Lts as lts
 
--- src/lib.rt:179:9
 sub-result : tie.Need-sub-result
 sub-result c = search needs
 
--- src/lib.rt:174:1
 returns : tie.Need-returns
 returns c =
     (rw (c .if1 .taken) (un-minus bias (c .before .args .n / 2) (omega arith)), omega arith)
 
--- src/lib.rt:174:1
 returns-2 : tie.Need-returns-2
 returns-2 c =
     (rw (c .if1 .left) (un-up bias 0), omega arith)

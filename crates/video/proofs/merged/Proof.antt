@@ -2,67 +2,52 @@ use Rattle.video.specs.Exact.{mergedOf}
 use borrow.Author.Needs.{needs}
 use Rattle.video.proofs.merged.Statement.{statement}
 use Rattle.video.proofs.merged.Tie as tie
-use Rattle.video.proofs.merged.Reads as reads
-use Rattle.video.proofs.merged.Lts as lts
-use Rattle.video.proofs.lane.Reads as lane-reads
 
--- src/lib.rt:422:23
 array-read-lane : tie.Need-array-read-lane
 array-read-lane c = search needs
 
--- src/lib.rt:422:29
 array-read-lane-2 : tie.Need-array-read-lane-2
 array-read-lane-2 c = search needs
 
--- src/lib.rt:422:9
 lane-requires : tie.Need-lane-requires
 lane-requires c κs = search needs
 
--- src/lib.rt:423:23
 array-read-lane-3 : tie.Need-array-read-lane-3
 array-read-lane-3 c = search needs
 
--- src/lib.rt:423:29
 array-read-lane-4 : tie.Need-array-read-lane-4
 array-read-lane-4 c = search needs
 
--- src/lib.rt:423:9
 lane-requires-2 : tie.Need-lane-requires-2
 lane-requires-2 c κs = search needs
 
--- src/lib.rt:424:23
 array-read-lane-5 : tie.Need-array-read-lane-5
 array-read-lane-5 c = search needs
 
--- src/lib.rt:424:29
 array-read-lane-6 : tie.Need-array-read-lane-6
 array-read-lane-6 c = search needs
 
--- src/lib.rt:424:9
 lane-requires-3 : tie.Need-lane-requires-3
 lane-requires-3 c κs = search needs
 
--- src/lib.rt:425:23
 array-read-lane-7 : tie.Need-array-read-lane-7
 array-read-lane-7 c = search needs
 
--- src/lib.rt:425:29
 array-read-lane-8 : tie.Need-array-read-lane-8
 array-read-lane-8 c = search needs
 
--- src/lib.rt:425:9
 lane-requires-4 : tie.Need-lane-requires-4
 lane-requires-4 c κs = search needs
 
--- src/lib.rt:418:1
 returns : tie.Need-returns
 unfolding mergedOf
 returns c =
-    simp
-    (c .lane4 .ensures,
-    c .before .lane3 .ensures,
-    c .before .before .lane2 .ensures,
-    c .before .before .before .lane .ensures)
+    simp (
+      c .lane4 .ensures,
+      c .before .lane3 .ensures,
+      c .before .before .lane2 .ensures,
+      c .before .before .before .lane .ensures,
+    )
 
 pub merged-spec : {M : Type 1} → statement M
 merged-spec =

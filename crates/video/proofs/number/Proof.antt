@@ -4,40 +4,30 @@ use borrow.Author.Tests.{le-leb, lt-leb}
 use borrow.Author.Needs.{needs}
 use Rattle.video.proofs.number.Statement.{statement}
 use Rattle.video.proofs.number.Tie as tie
-use Rattle.video.proofs.number.Reads as reads
-use Rattle.video.proofs.number.Lts as lts
 
--- src/lib.rt:105:17
 mul-if2 : tie.Need-mul-if2
 mul-if2 c = search needs
 
--- src/lib.rt:106:20
 add-result : tie.Need-add-result
 add-result c = search needs
 
--- src/lib.rt:106:20
 sub-result : tie.Need-sub-result
 sub-result c = search needs
 
--- src/lib.rt:106:13
 returns : tie.Need-returns
 returns c =
     (rw (c .before .if1 .taken) (exact-neg (c .before .before .args .n) (c .before .before .args .x) (search needs) (c .if2 .taken)), search needs)
 
--- src/lib.rt:108:16
 add-result-2 : tie.Need-add-result-2
 add-result-2 c = search needs
 
--- src/lib.rt:108:9
 returns-2 : tie.Need-returns-2
 returns-2 c =
     (rw (c .before .if1 .taken) (exact-pos (c .before .before .args .n) (c .before .before .args .x) (c .if2 .left)), search needs)
 
--- src/lib.rt:110:5
 add-result-3 : tie.Need-add-result-3
 add-result-3 c = search needs
 
--- src/lib.rt:99:1
 returns-3 : tie.Need-returns-3
 returns-3 c =
     (rw (c .if1 .left) (exact-plain (c .before .args .n) (c .before .args .x)), search needs)

@@ -2,29 +2,20 @@ use borrow.Author.Tests.{le-ltb, lt-ltb}
 use borrow.Author.Needs.{needs}
 use Rattle.video.proofs.numbered_part.Statement.{statement}
 use Rattle.video.proofs.numbered_part.Tie as tie
-use Rattle.video.proofs.numbered_part.Reads as reads
-use Rattle.video.proofs.numbered_part.Lts as lts
-use Rattle.video.proofs.lane_count.Reads as lane-count-reads
-use Rattle.video.proofs.part.Reads as part-reads
 
--- src/lib.rt:358:9
 lane-count-requires : tie.Need-lane-count-requires
 lane-count-requires c κs = search needs
 
--- src/lib.rt:360:9
 part-requires : tie.Need-part-requires
 part-requires c κs = search needs
 
--- src/lib.rt:360:9
 returns : tie.Need-returns
 returns c =
     rw (← c .before .before .lane-count .ensures, lt-ltb _ _ (c .before .if1 .taken)) (c .part .ensures .0)
 
--- src/lib.rt:362:5
 part-requires-2 : tie.Need-part-requires-2
 part-requires-2 c κs = search needs
 
--- src/lib.rt:355:1
 returns-2 : tie.Need-returns-2
 returns-2 c =
     rw (← c .before .before .lane-count .ensures, le-ltb _ _ (c .before .if1 .left)) (c .part2 .ensures .0)

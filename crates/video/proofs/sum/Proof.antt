@@ -4,18 +4,13 @@ use native.Mathlib.Omega.{arith}
 use borrow.Author.Needs.{needs}
 use Rattle.video.proofs.sum.Statement.{statement}
 use Rattle.video.proofs.sum.Tie as tie
-use Rattle.video.proofs.sum.Reads as reads
-use Rattle.video.proofs.sum.Lts as lts
 
--- src/lib.rt:144:5
 add-result : tie.Need-add-result
 add-result c = search needs
 
--- src/lib.rt:144:5
 sub-result : tie.Need-sub-result
 sub-result c = search needs
 
--- src/lib.rt:140:1
 returns : tie.Need-returns
 returns c =
     (un-add bias (c .args .x) (c .args .y) (omega arith), omega arith)

@@ -33,13 +33,14 @@ formed-requires c κs = search needs
 returns : tie.Need-returns
 unfolding vsetOf exactOf
 returns c =
-    simp
-    (c .formed .ensures,
-    c .before .number .ensures .0,
-    c .before .before .bit-of .ensures .0,
-    c .before .before .before .holds .ensures,
-    c .before .before .before .before .selected2 .ensures .0,
-    c .before .before .before .before .before .selected .ensures .0)
+    simp (
+      c .formed .ensures,
+      c .before .number .ensures .0,
+      c .before .before .bit-of .ensures .0,
+      c .before .before .before .holds .ensures,
+      c .before .before .before .before .selected2 .ensures .0,
+      c .before .before .before .before .before .selected .ensures .0,
+    )
 
 pub vset-spec : {M : Type 1} → statement M
 vset-spec =

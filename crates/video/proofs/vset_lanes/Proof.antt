@@ -34,13 +34,14 @@ cast-result c = search needs
 returns : tie.Need-returns
 unfolding lanesOf
 returns c =
-    simp
-    (c .wide2 .ensures .0,
-    c .before .counted .ensures .0,
-    c .before .before .wide .ensures .0,
-    c .before .before .before .if1 .taken,
-    c .before .before .before .before .held .ensures,
-    counted-is)
+    simp (
+      c .wide2 .ensures .0,
+      c .before .counted .ensures .0,
+      c .before .before .wide .ensures .0,
+      c .before .before .before .if1 .taken,
+      c .before .before .before .before .held .ensures,
+      counted-is,
+    )
 
 parts-requires : tie.Need-parts-requires
 parts-requires c κs = search needs
@@ -54,12 +55,13 @@ rejoin-requires c κs = search needs
 returns-2 : tie.Need-returns-2
 unfolding lanesOf
 returns-2 c =
-    simp
-    (c .rejoin .ensures,
-    c .before .merged .ensures,
-    c .before .before .parts .ensures,
-    c .before .before .before .if1 .left,
-    c .before .before .before .before .held .ensures)
+    simp (
+      c .rejoin .ensures,
+      c .before .merged .ensures,
+      c .before .before .parts .ensures,
+      c .before .before .before .if1 .left,
+      c .before .before .before .before .held .ensures,
+    )
     (merged-is _ _ (laneHolds (c .before .before .before .before .before .before .args .cmp) (c .before .before .before .before .before .before .args .l) (c .before .before .before .before .before .before .args .a) (c .before .before .before .before .before .before .args .b)) (c .before .before .before .before .before .before .args .c))
 
 pub vset-lanes-spec : {M : Type 1} → statement M

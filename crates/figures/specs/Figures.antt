@@ -1,0 +1,135 @@
+-- Document 01, "Bench figures": the starred ones, as one list with one claim. Each is a record with its files, through `run`, and the whole
+-- outcome. `%r0`, `%r1` and `%r2` hold a, b and c; d is `%r3`. Predicate 0 holds c of setp; its places are 1 and 2.
+use Prim.Native.Nat.{ℕ}
+use mathlib.Core.Path.{_≡_, refl}
+use mathlib.Core.Bool.{Bool, true, false}
+use mathlib.Core.List.{List, [], _∷_, _++_, map}
+use lib.ListN.{replicate}
+use lib.Ieee.{eq, ofBits, ofFields, odd}
+use Rattle.record.specs.Refusals.{isLegal}
+use Rattle.record.specs.Operands.{fullMask, defaultA, defaultB}
+use Rattle.record.specs.declared.Word.{Word}
+use Rattle.record.specs.declared.Pred.{Pred}
+use Rattle.record.specs.declared.VideoType.{VideoType}
+use Rattle.record.specs.declared.VideoType.the-variants.{U32, S32}
+use Rattle.record.specs.declared.DataType
+use Rattle.record.specs.declared.DataType.{DataType}
+use Rattle.record.specs.declared.SetType
+use Rattle.record.specs.declared.SetType.{SetType}
+use Rattle.record.specs.declared.Cmp6.{Cmp6}
+use Rattle.record.specs.declared.Cmp6.the-variants.{Eq, Lt, Ge}
+use Rattle.record.specs.declared.CmpOp.the-variants.{Six}
+use Rattle.record.specs.declared.BoolOp.the-variants.{And}
+use Rattle.record.specs.declared.Guard.the-variants.{Always}
+use Rattle.record.specs.declared.Combination.the-variants.{Alone, With}
+use Rattle.record.specs.declared.Selector.the-variants.{B1}
+use Rattle.record.specs.declared.Selected.the-variants.{Whole}
+use Rattle.record.specs.declared.Form.{Form}
+use Rattle.record.specs.declared.Form.the-variants.{Plain, Merge}
+use Rattle.record.specs.declared.LaneWidth.{LaneWidth}
+use Rattle.record.specs.declared.LaneWidth.the-variants.{Half, Byte}
+use Rattle.record.specs.declared.Mask.{Mask}
+use Rattle.record.specs.declared.Digits.{Digits}
+use Rattle.record.specs.declared.Arith.{Arith}
+use Rattle.record.specs.declared.Arith.the-variants.{Vadd, Vabsdiff}
+use Rattle.record.specs.declared.Operand
+use Rattle.record.specs.declared.Operand.{Operand}
+use Rattle.record.specs.declared.Destination.the-variants.{Pair}
+use Rattle.record.specs.declared.Instruction.{Instruction}
+use Rattle.record.specs.declared.Instruction.the-variants.{Arithmetic, VsetLanes, Set, Setp}
+use Rattle.record.specs.declared.Record.{Record}
+use Rattle.rules.specs.Numbers.{exactOf, holdsZ}
+use Rattle.rules.specs.Execution.{selectedOf, formOf, arithmeticOf, laneHolds, lanesOf, valueOf, comparisonOf}
+use Rattle.rules.specs.Executing.{Files, files, done, Outcome, outcome, combinedOf, testOf, writes, after, sizesFit, predsFit, guardHolds, run}
+
+pub record Figure : Type 0 where
+  pub line : Record
+  pub before : Files
+  pub left : Files
+
+-- ---- how the figures' lines are written as records
+
+abbrev always : Instruction → Record
+always i = record { guard = Always; instruction = i }
+
+abbrev r : ℕ → Word
+r n = record { 0 = n }
+
+-- 64 words, 32 double-words, 16 predicates, all 0 but the first few
+abbrev lent : List ℕ → List ℕ → Files
+lent words preds = files words (replicate 32 0) preds
+
+abbrev four : ℕ → ℕ → ℕ → ℕ → List ℕ
+four a b c d = a ∷ b ∷ c ∷ d ∷ replicate 60 0
+
+abbrev three : ℕ → ℕ → ℕ → List ℕ
+three p q s = p ∷ q ∷ s ∷ replicate 13 0
+
+-- %r3, %r0, %r1, %r2 with a mask and a's selector; b's selector is its default
+abbrev lanesLine : LaneWidth → VideoType → Cmp6 → Bool → Mask → Digits → Record
+lanesLine w atype cmp add mask asel =
+    always
+    (VsetLanes cmp
+    (record { width = w; atype = atype; btype = U32; add = add; d = r 3; mask = mask; a = r 0; asel = asel; b = r 1; bsel = defaultB w; c = r 2 }))
+
+abbrev scalarLine : Arith → VideoType → Bool → VideoType → VideoType → Form → Record
+scalarLine op dtype sat atype btype form =
+    always (Arithmetic op dtype sat (record { atype = atype; btype = btype; form = form; a = Whole (r 0); b = Whole (r 1) }))
+
+-- d of a line whose words are a, b, c before
+abbrev gives : Record → ℕ → ℕ → ℕ → ℕ → Figure
+gives line a b c d = record { line = line; before = lent (four a b c 0) (three 0 0 0); left = lent (four a b c d) (three 0 0 0) }
+
+-- h01, b20
+abbrev h01 : Digits
+h01 = record { lane0 = 1; lane1 = 0; lane2 = 0; lane3 = 0 }
+
+abbrev b20 : Mask
+b20 = record { lane0 = true; lane1 = false; lane2 = true; lane3 = false }
+
+-- ---- the starred figures
+
+unfoldable pub figures : List Figure
+figures =
+    -- vset4.s32.u32.lt, a 80FF0001, b 00000002: 01010001. Mask .b20, c AABBCCDD: AA01CC01. `add`, full mask, c FFFFFFFF: 00000002
+    gives (lanesLine Byte S32 Lt false (fullMask Byte) (defaultA Byte)) 0x80FF0001 0x00000002 0 0x01010001
+    ∷ gives (lanesLine Byte S32 Lt false b20 (defaultA Byte)) 0x80FF0001 0x00000002 0xAABBCCDD 0xAA01CC01
+    ∷ gives (lanesLine Byte S32 Lt true (fullMask Byte) (defaultA Byte)) 0x80FF0001 0x00000002 0xFFFFFFFF 0x00000002
+    -- vset2.u32.u32.ge, a 00010002, b 00020002: 00000001. With a `.h01`: 00010000
+    ∷ gives (lanesLine Half U32 Ge false (fullMask Half) (defaultA Half)) 0x00010002 0x00020002 0 0x00000001
+    ∷ gives (lanesLine Half U32 Ge false (fullMask Half) h01) 0x00010002 0x00020002 0 0x00010000
+    -- vadd all s32, 7FFFFFFF and 1: 80000000; sat 7FFFFFFF
+    ∷ gives (scalarLine Vadd S32 false S32 S32 (Plain (r 3))) 0x7FFFFFFF 1 0 0x80000000
+    ∷ gives (scalarLine Vadd S32 true S32 S32 (Plain (r 3))) 0x7FFFFFFF 1 0 0x7FFFFFFF
+    -- vadd all u32 into `.b1`, 200 and 100, c 11223344: 11222C44; sat 1122FF44
+    ∷ gives (scalarLine Vadd U32 false U32 U32 (Merge (r 3) B1 (r 2))) 200 100 0x11223344 0x11222C44
+    ∷ gives (scalarLine Vadd U32 true U32 U32 (Merge (r 3) B1 (r 2))) 200 100 0x11223344 0x1122FF44
+    -- vabsdiff.u32.s32.u32, 80000000 and FFFFFFFF: 7FFFFFFF
+    ∷ gives (scalarLine Vabsdiff U32 false S32 U32 (Plain (r 3))) 0x80000000 0xFFFFFFFF 0 0x7FFFFFFF
+    -- set.eq.f32.f32, 80000000 and 0: 3F800000
+    ∷ gives
+    (always
+    (Set SetType.F32 (r 3)
+    (record { cmp = Six Eq; combination = Alone; ftz = false; stype = DataType.F32; a = Operand.Word (r 0); b = Operand.Word (r 1) }))) 0x80000000 0
+    0 0x3F800000
+    -- setp.lt.and.s32, -1 and 0, c 0: both places 0
+    ∷ record {
+      line = always
+          (Setp (Pair (record { 0 = 1 }) (record { 0 = 2 }))
+          (record {
+            cmp = Six Lt;
+            combination = With And (record { inverted = false; pred = record { 0 = 0 } });
+            ftz = false;
+            stype = DataType.S32;
+            a = Operand.Word (r 0);
+            b = Operand.Word (r 1);
+          }));
+      before = lent (four 0xFFFFFFFF 0 0 0) (three 0 1 1);
+      left = lent (four 0xFFFFFFFF 0 0 0) (three 0 0 0);
+    }
+    ∷ []
+
+-- each figure's record, run on its files, is done and leaves the files that the document gives
+pub figures-hold : map (λ (g : Figure). run (g .line) (g .before)) figures ≡ map (λ (g : Figure). outcome done (g .left)) figures
+unfolding figures run isLegal sizesFit predsFit guardHolds after writes arithmeticOf formOf selectedOf exactOf lanesOf laneHolds holdsZ combinedOf testOf comparisonOf valueOf eq ofBits ofFields odd
+figures-hold = refl
