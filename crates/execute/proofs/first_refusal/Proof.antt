@@ -1,0 +1,18 @@
+use borrow.Author.Needs.{needs}
+use Rattle.execute.proofs.first_refusal.Statement.{statement}
+use Rattle.execute.proofs.first_refusal.Tie as tie
+
+returns : tie.Need-returns
+returns c = search needs
+
+returns-2 : tie.Need-returns-2
+returns-2 c = search needs
+
+returns-3 : tie.Need-returns-3
+returns-3 c = search needs
+
+returns-4 : tie.Need-returns-4
+returns-4 c = search needs
+
+pub first-refusal-spec : {M : Type 1} → statement M
+first-refusal-spec = tie.close (tie.spec returns returns-2 returns-3 returns-4)
