@@ -21,6 +21,7 @@ use Rattle.record.specs.declared.CmpOp.{CmpOp}
 use Rattle.base.specs.Tests.{leb-not}
 use Rattle.base.specs.Moved.{un, un-low, un-high, un-up, un-down, un-lt, un-le, un-eq}
 use Rattle.rules.specs.Numbers.{wordSize, exactOf, holdsZ}
+use Rattle.rules.specs.FloatOrder.{only-nan}
 use Rattle.rules.specs.Execution.{valueOf, wholeHolds, floatHolds, comparisonOf}
 use Rattle.compare.specs.Mirror.{movedOf, comparedOf, sixFrom, wholesHold, floatFrom, comparedHold}
 
@@ -28,12 +29,6 @@ use Rattle.compare.specs.Mirror.{movedOf, comparedOf, sixFrom, wholesHol
 
 pub pattern-plain : (f : Format) (n : ℕ) → n % top f ≤ ones f * hid f → T (not (nanBits f n))
 pattern-plain f n h = rw (nanBits-above f n, le-ltb _ _ h) tt
-
-only-nan : (x : Float) → isNan x ≡ true → x ≡ nan
-unfolding isNan
-only-nan nan e = refl
-only-nan (inf s) e = cc
-only-nan (fin s m x) e = cc
 
 pub pattern-nan : (f : Format) (n : ℕ) → ones f * hid f < n % top f → ofBits f n ≡ nan
 pattern-nan f n h = only-nan (ofBits f n) (sym (nanBits-is f n) ∙ nanBits-above f n ∙ lt-ltb _ _ h)
@@ -128,11 +123,11 @@ module _ (op : CmpOp) where
 
   pub compared-is : (t : DataType) (ftz : Bool) (x y : ℕ) → comparedHold op (comparedOf t ftz x) (comparedOf t ftz y) ≡ comparisonOf op ftz t x y
   unfolding comparedHold comparedOf comparisonOf valueOf
-  compared-is B32 ftz x y = plain wordSize x y
+  compared-is B32 ftz x y = plain wordSize (x % wordSize) (y % wordSize)
   compared-is B64 ftz x y = plain (2 ^ 64) x y
-  compared-is U32 ftz x y = plain wordSize x y
+  compared-is U32 ftz x y = plain wordSize (x % wordSize) (y % wordSize)
   compared-is U64 ftz x y = plain (2 ^ 64) x y
-  compared-is S32 ftz x y = moved (2 ^ 31) x y
+  compared-is S32 ftz x y = moved (2 ^ 31) (x % wordSize) (y % wordSize)
   compared-is S64 ftz x y = moved (2 ^ 63) x y
   compared-is F32 ftz x y = refl
   compared-is F64 ftz x y = refl

@@ -23,11 +23,11 @@ unfoldable pub movedOf : ℕ → ℕ → ℕ
 movedOf h x = cond (ltb x h) (x + h) (x - h)
 
 unfoldable pub comparedOf : DataType → Bool → ℕ → Compared
-comparedOf B32 ftz x = Whole x
+comparedOf B32 ftz x = Whole (x % wordSize)
 comparedOf B64 ftz x = Whole x
-comparedOf U32 ftz x = Whole x
+comparedOf U32 ftz x = Whole (x % wordSize)
 comparedOf U64 ftz x = Whole x
-comparedOf S32 ftz x = Whole (movedOf (2 ^ 31) x)
+comparedOf S32 ftz x = Whole (movedOf (2 ^ 31) (x % wordSize))
 comparedOf S64 ftz x = Whole (movedOf (2 ^ 63) x)
 comparedOf F32 ftz x = Single (ofBits binary32 (flushed ftz (x % wordSize)))
 comparedOf F64 ftz x = Double (ofBits binary64 x)

@@ -1,4 +1,4 @@
-// The comparison of set and setp, what they write, and how selp and slct choose, as functions of the numbers that the registers hold.
+// The comparison of set and setp, what they write, and the test of slct, as functions of the numbers that the registers hold.
 use record::BoolOp;
 use record::Cmp6;
 use record::CmpF;
@@ -8,7 +8,7 @@ use record::DataType;
 use record::SetType;
 use record::SlctType;
 ghost use mathlib.Core.Path.{_≡_};
-ghost use Prim.Native.Nat.{_%_, _^_};
+ghost use Prim.Native.Nat.{_%_, _^_, _≤_};
 ghost use lib.Ieee.{binary32, binary64, ofBits, isNan};
 ghost use Rattle.rules.specs.Numbers.{wordSize};
 ghost use Rattle.rules.specs.Execution.{flushed, floatHolds, comparisonOf, boolOf, trueOf, setOf, notBelowZero};
@@ -23,33 +23,33 @@ pub enum Compared {
 
 // ---- the bits of a register as a value
 
-fn moved32(x: u64) -> u64
-    ensures { λ r. ⌜ r ≡ movedOf (2 ^ 31) x ⌝ }
-{
-    if x < 2147483648 {
-        x + 2147483648
-    } else {
-        x - 2147483648
-    }
-}
+// How many values a word has, and half of that; half of a double's.
+const WORD_SIZE: u64 = 4294967296;
+const HALF_OF_WORDS: u64 = 2147483648;
+const HALF_OF_DOUBLES: u64 = 9223372036854775808;
 
-fn moved64(x: u64) -> u64
-    ensures { λ r. ⌜ r ≡ movedOf (2 ^ 63) x ⌝ }
+// f32: the sign's weight, the smallest normal number and infinity, as patterns. f64: the sign's weight and infinity.
+const SIGN32: u32 = 0x80000000;
+const NORMAL32: u32 = 0x00800000;
+const INFINITY32: u32 = 0x7f800000;
+const SIGN64: u64 = 0x8000000000000000;
+const INFINITY64: u64 = 0x7ff0000000000000;
+
+// A signed number with half of its range on either side of zero, moved up by that half.
+fn moved(half: u64, x: u64) -> u64
+    requires { ⌜ half ≤ 2 ^ 63 ⌝ }
+    ensures { λ r. ⌜ r ≡ movedOf half x ⌝ }
 {
-    if x < 9223372036854775808 {
-        x + 9223372036854775808
-    } else {
-        x - 9223372036854775808
-    }
+    if x < half { x + half } else { x - half }
 }
 
 // Subnormal patterns become the zero of their sign.
 fn flush(ftz: bool, bits: u32) -> u32
     ensures { λ r. ⌜ r ≡ flushed ftz bits ⌝ }
 {
-    if ftz & (bits % 2147483648 < 8388608) {
-        if 2147483648 <= bits {
-            return 2147483648;
+    if ftz & (bits % SIGN32 < NORMAL32) {
+        if SIGN32 <= bits {
+            return SIGN32;
         }
         return 0;
     }
@@ -60,7 +60,7 @@ fn flush(ftz: bool, bits: u32) -> u32
 fn single(bits: u32) -> f32
     ensures { λ r. ⌜ r ≡ ofBits binary32 bits ⌝ }
 {
-    if 2139095040 < bits % 2147483648 {
+    if INFINITY32 < bits % SIGN32 {
         0.0 / 0.0
     } else {
         f32::from_bits(bits)
@@ -70,7 +70,7 @@ fn single(bits: u32) -> f32
 fn double(bits: u64) -> f64
     ensures { λ r. ⌜ r ≡ ofBits binary64 bits ⌝ }
 {
-    if 9218868437227405312 < bits % 9223372036854775808 {
+    if INFINITY64 < bits % SIGN64 {
         0.0 / 0.0
     } else {
         f64::from_bits(bits)
@@ -80,19 +80,21 @@ fn double(bits: u64) -> f64
 fn low_word(x: u64) -> u32
     ensures { λ r. ⌜ r ≡ x % wordSize ⌝ }
 {
-    (x % 4294967296) as u32
+    (x % WORD_SIZE) as u32
 }
 
+// A type of 32 bits looks at the low 32.
 fn value(t: DataType, ftz: bool, x: u64) -> Compared
     ensures { λ r. ⌜ r ≡ comparedOf t ftz x ⌝ }
 {
+    let low = x % WORD_SIZE;
     match t {
-        DataType::B32 => Compared::Whole(x),
+        DataType::B32 => Compared::Whole(low),
         DataType::B64 => Compared::Whole(x),
-        DataType::U32 => Compared::Whole(x),
+        DataType::U32 => Compared::Whole(low),
         DataType::U64 => Compared::Whole(x),
-        DataType::S32 => Compared::Whole(moved32(x)),
-        DataType::S64 => Compared::Whole(moved64(x)),
+        DataType::S32 => Compared::Whole(moved(HALF_OF_WORDS, low)),
+        DataType::S64 => Compared::Whole(moved(HALF_OF_DOUBLES, x)),
         DataType::F32 => Compared::Single(single(flush(ftz, low_word(x)))),
         DataType::F64 => Compared::Double(double(x)),
     }
@@ -269,7 +271,7 @@ pub fn not_below_zero(ctype: SlctType, c: u32) -> bool
     ensures { λ r. ⌜ r ≡ notBelowZero ctype c ⌝ }
 {
     match ctype {
-        SlctType::S32 => c < 2147483648,
+        SlctType::S32 => c < SIGN32,
         SlctType::F32 { .. } => {
             let x = single(c);
             (0.0 < x) | (0.0 == x)

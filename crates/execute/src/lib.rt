@@ -37,6 +37,17 @@ pub enum Executed {
     Refused(u8),
 }
 
+// The lengths of the files, and how many values a word has.
+const WORDS: usize = 64;
+const DOUBLES: usize = 32;
+const PREDS: usize = 16;
+const WORD_SIZE: u64 = 4294967296;
+
+// The refusals of executing.
+const NOT_LEGAL: u8 = 8;
+const WRONG_SIZES: u8 = 10;
+const WRONG_PREDS: u8 = 11;
+
 // ---- registers: no place past the end is read or written
 
 fn get_word(words: &[u32], w: Word) -> u32
@@ -107,7 +118,7 @@ fn operand(o: Operand, words: &[u32], doubles: &[u64]) -> u64
 fn low_word(x: u64) -> u32
     ensures { λ r. ⌜ r ≡ x % wordSize ⌝ }
 {
-    (x % 4294967296) as u32
+    (x % WORD_SIZE) as u32
 }
 
 fn put_operand(o: Operand, v: u64, words: &mut [u32], doubles: &mut [u64])
@@ -220,12 +231,12 @@ fn test(s: Comparison, words: &[u32], doubles: &[u64]) -> bool
 fn do_set(dtype: SetType, d: Word, s: Comparison, words: &mut [u32], doubles: &[u64], preds: &[u8])
     ensures { λ _. ⌜ now (words .exit) ≡ set (now (words .entry)) (d .0) (setOf dtype (combinedOf (now (preds .entry)) (s .combination) (testOf (now (words .entry)) (now (doubles .entry)) s))) ⌝ }
 {
-    let with = s.combination;
+    let combination = s.combination;
     let t = test(s, words, doubles);
     put_word(
         words,
         d,
-        compare::set_value(dtype, combined(with, t, preds)),
+        compare::set_value(dtype, combined(combination, t, preds)),
     );
 }
 
@@ -254,10 +265,10 @@ fn put_destination(d: Destination, first: bool, second: bool, preds: &mut [u8])
 fn do_setp(d: Destination, s: Comparison, words: &[u32], doubles: &[u64], preds: &mut [u8])
     ensures { λ _. ⌜ now (preds .exit) ≡ predsWith d (combinedOf (now (preds .entry)) (s .combination) (testOf (now (words .entry)) (now (doubles .entry)) s)) (combinedOf (now (preds .entry)) (s .combination) (not (testOf (now (words .entry)) (now (doubles .entry)) s))) (now (preds .entry)) ⌝ }
 {
-    let with = s.combination;
+    let combination = s.combination;
     let t = test(s, words, doubles);
-    let first = combined(with, t, preds);
-    let second = combined(with, !t, preds);
+    let first = combined(combination, t, preds);
+    let second = combined(combination, !t, preds);
     put_destination(d, first, second, preds);
 }
 
@@ -327,7 +338,7 @@ fn perform(i: Instruction, words: &mut [u32], doubles: &mut [u64], preds: &mut [
 fn sizes_fit(words: &[u32], doubles: &[u64], preds: &[u8]) -> bool
     ensures { λ r. ⌜ r ≡ sizesFit (files (now (words .entry)) (now (doubles .entry)) (now (preds .entry))) ⌝ }
 {
-    (words.len() == 64) & (doubles.len() == 32) & (preds.len() == 16)
+    (words.len() == WORDS) & (doubles.len() == DOUBLES) & (preds.len() == PREDS)
 }
 
 fn preds_fit(preds: &[u8]) -> bool
@@ -353,17 +364,17 @@ fn guard_holds(g: Guard, preds: &[u8]) -> bool
 }
 
 // The first refusal that applies, 0 where none does.
-fn first_refusal(illegal: bool, sizes: bool, bits: bool) -> u8
-    ensures { λ r. ⌜ r ≡ firstRefusal illegal sizes bits ⌝ }
+fn first_refusal(illegal: bool, wrong_sizes: bool, wrong_preds: bool) -> u8
+    ensures { λ r. ⌜ r ≡ firstRefusal illegal «wrong_sizes» «wrong_preds» ⌝ }
 {
     if illegal {
-        return 8;
+        return NOT_LEGAL;
     }
-    if sizes {
-        return 10;
+    if wrong_sizes {
+        return WRONG_SIZES;
     }
-    if bits {
-        return 11;
+    if wrong_preds {
+        return WRONG_PREDS;
     }
     0
 }
@@ -373,9 +384,9 @@ pub fn execute(r: Record, words: &mut [u32], doubles: &mut [u64], preds: &mut [u
     ensures { λ x. ⌜ outcome (answerOf x) (files (now (words .exit)) (now (doubles .exit)) (now (preds .exit))) ≡ run r (files (now (words .entry)) (now (doubles .entry)) (now (preds .entry))) ⌝ }
 {
     let illegal = !record::legal(r);
-    let sizes = !sizes_fit(words, doubles, preds);
-    let bits = !preds_fit(preds);
-    let n = first_refusal(illegal, sizes, bits);
+    let wrong_sizes = !sizes_fit(words, doubles, preds);
+    let wrong_preds = !preds_fit(preds);
+    let n = first_refusal(illegal, wrong_sizes, wrong_preds);
     if n != 0 {
         return Executed::Refused(n);
     }

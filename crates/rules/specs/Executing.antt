@@ -1,4 +1,5 @@
--- Document 01, "Registers" and "Refusal numbers" for executing: the lent files, what a record reads and writes, refusals 8, 10, 11, done and skipped.
+-- Document 01, "Registers" and "Refusal numbers" for executing: the lent files, what a record reads and writes, refusals 8, 10, 11, done and
+-- skipped. Of the bullets on execution those on places and on `!` stand here.
 use Prim.Native.Nat.{ℕ, zero, suc, _%_}
 use mathlib.Core.Bool.{Bool, true, false, not, _&&_, cond}
 use mathlib.Core.List.{List, [], _∷_}
@@ -72,7 +73,7 @@ formC words (Plain d) = 0
 formC words (Merge d sel c) = wordOf words c
 formC words (Combine op d c) = wordOf words c
 
--- `!` inverts
+-- In both, `!` inverts c; so it does in a guard
 abbrev pub conditionHolds : List ℕ → Condition → Bool
 conditionHolds preds c = unlike (c .inverted) (eqb (predOf preds (c .pred)) 1)
 
@@ -151,11 +152,11 @@ after i f = putAll (writes i f) f
 
 -- ==== executing a record
 
--- 10: file lengths not 64, 32, 16
+-- 10 says that this does not hold: file lengths not 64, 32, 16
 unfoldable pub sizesFit : Files → Bool
 sizesFit f = eqb (length (f .words)) wordCount && eqb (length (f .doubles)) doubleCount && eqb (length (f .preds)) predCount
 
--- 11: some predicate byte over 1
+-- 11 says that this does not hold: some predicate byte over 1
 unfoldable pub predsFit : List ℕ → Bool
 predsFit [] = true
 predsFit (p ∷ ps) = leb p 1 && predsFit ps
@@ -168,14 +169,14 @@ pub data Answer : Type 0 where
 
 pub record Outcome : Type 0 where
   pub answer : Answer
-  pub left : Files
+  pub files : Files
 
 abbrev pub outcome : Answer → Files → Outcome
-outcome a f = record { answer = a; left = f }
+outcome a f = record { answer = a; files = f }
 
 -- Executing: 8, 10, 11, each looked at only when the earlier ones don't apply; 0 where none applies
 abbrev pub firstRefusal : Bool → Bool → Bool → ℕ
-firstRefusal illegal sizes preds = cond illegal 8 (cond sizes 10 (cond preds 11 0))
+firstRefusal illegal wrongSizes wrongPreds = cond illegal 8 (cond wrongSizes 10 (cond wrongPreds 11 0))
 
 unfoldable pub guardHolds : List ℕ → Guard → Bool
 guardHolds preds Always = true

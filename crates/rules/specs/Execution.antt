@@ -1,5 +1,5 @@
--- Document 01, "What execution does": its bullets in their order, each sentence above what says it. Everything here is a function of the
--- registers before: all sources are read before any destination is written.
+-- Document 01, "What execution does": its bullets in their order, as functions of what the registers hold before. Each sentence stands above
+-- what says it; those on files, guards and places are in Executing.antt. Words are untyped, so an f32 is its bits. Subnormal numbers are kept.
 use Prim.Native.Nat.{ℕ, zero, suc, _+_, _-_, _*_, _/_, _%_, _^_}
 use mathlib.Core.Bool.{Bool, true, false, not, _&&_, _||_, cond}
 use mathlib.Core.List.{List, [], _∷_, _++_}
@@ -68,7 +68,7 @@ unfoldable pub selectedOf : VideoType → Selected → ℕ → ℤ
 selectedOf t (Selected.Whole w) x = exactOf (isSigned t) wordSize x
 selectedOf t (Selected.Part w sel) x = exactOf (isSigned t) (size (selectorWidth sel)) (partAt (size (selectorWidth sel)) x (selectorPart sel))
 
--- The sum, difference, absolute difference, minimum or maximum stays exact
+-- The sum, difference, absolute difference, minimum or maximum stays exact until the low 32 bits are taken, also where 002 names a narrower type
 abbrev pub arithZ : Arith → ℤ → ℤ → ℤ
 arithZ Vadd x y = x +ℤ y
 arithZ Vsub x y = x -ℤ y
@@ -85,7 +85,7 @@ abbrev pub highestZ : Bool → ℕ → ℤ
 highestZ true n = pos (n / 2 - 1)
 highestZ false n = pos (n - 1)
 
--- the width of d's selector, 32 bits if none
+-- how many values there are at the width of d's selector, 32 bits if none
 abbrev pub formSize : Form → ℕ
 formSize (Plain d) = wordSize
 formSize (Merge d sel c) = size (selectorWidth sel)
@@ -106,7 +106,7 @@ replaced w k c v = joined (size w) (lanes w) (λ i. cond (eqb i k) v (partAt (si
 
 -- what d gets of an exact number z, with c read as signed or not
 unfoldable pub formOf : Bool → Form → ℕ → ℤ → ℕ
--- exact until the low 32 bits are taken
+-- the low 32 bits are taken
 formOf signed (Plain d) c z = lowOf wordSize z
 -- With a selector on d the low 8 or 16 bits replace that part of c
 formOf signed (Merge d sel e) c z = replaced (selectorWidth sel) (selectorPart sel) c (lowOf (size (selectorWidth sel)) z)
@@ -123,9 +123,9 @@ unfoldable pub vsetOf : Cmp6 → Scalar → ℕ → ℕ → ℕ → ℕ
 vsetOf cmp s a b c =
     formOf false (s .form) c (pos (bit (holdsZ cmp (selectedOf (s .atype) (s .a) a) (selectedOf (s .btype) (s .b) b))))
 
--- ==== vset2, vset4
+-- ==== vset2, vset4: the two or four lanes are handled as one small group
 
--- what a selector and a mask say of lane i
+-- In a selector the leftmost digit names the highest lane: a record holds the digit of each lane, and the mask's bit, by the lane's number
 abbrev pub digitAt : Digits → ℕ → ℕ
 digitAt s zero = s .lane0
 digitAt s (suc zero) = s .lane1
@@ -142,7 +142,8 @@ maskAt m (suc (suc (suc i))) = m .lane3
 abbrev pub numbered : LaneWidth → ℕ → ℕ → ℕ → ℕ
 numbered w a b k = cond (ltb k (lanes w)) (partAt (size w) a k) (partAt (size w) b (k - lanes w))
 
--- lane i: the part that each selector picks, as an exact number by the type that stands first for a's selector and second for b's
+-- what a selector picks for lane i, as an exact number by the type on the selector's side: the first type for a's selector and the second for
+-- b's, also where a digit of a's selector picks a part of b (000: extractAndSignExt_4(a, b, .asel, .atype))
 abbrev pub laneNumber : LaneWidth → VideoType → Digits → ℕ → ℕ → ℕ → ℤ
 laneNumber w t s a b i = exactOf (isSigned t) (size w) (numbered w a b (digitAt s i))
 
@@ -154,7 +155,7 @@ laneHolds cmp l a b i =
 abbrev pub laneOf : Cmp6 → Lanes → ℕ → ℕ → ℕ → ℕ → ℕ
 laneOf cmp l a b c i = cond (maskAt (l .mask) i) (bit (laneHolds cmp l a b i)) (partAt (size (l .width)) c i)
 
--- how many of k lanes
+-- for how many of the first k numbers f holds
 abbrev pub count : ℕ → (ℕ → Bool) → ℕ
 count zero f = 0
 count (suc k) f = bit (f 0) + count k (λ i. f (suc i))
@@ -173,22 +174,23 @@ pub data Value : Type 0 where
   single : Float → Value
   double : Float → Value
 
--- `ftz` turns subnormal inputs into zero of their sign: patterns of f32 whose exponent's field is 0
+-- `ftz` turns subnormal inputs into zero of their sign. Of an f32's bits, `top` is the weight of the sign and `hid` the smallest normal number:
+-- what is below `hid` without its sign is subnormal, or a zero already
 abbrev pub flushed : Bool → ℕ → ℕ
 flushed ftz x = cond (ftz && ltb (x % top binary32) (hid binary32)) (cond (leb (top binary32) x) (top binary32) 0) x
 
--- what the bits of a register stand for under stype. A word's bits are the low 32
+-- what the bits of a register stand for under stype. A type of 32 bits looks at the low 32
 unfoldable pub valueOf : DataType → Bool → ℕ → Value
-valueOf B32 ftz x = whole (exactOf false wordSize x)
+valueOf B32 ftz x = whole (exactOf false wordSize (x % wordSize))
 valueOf B64 ftz x = whole (exactOf false doubleSize x)
-valueOf U32 ftz x = whole (exactOf false wordSize x)
+valueOf U32 ftz x = whole (exactOf false wordSize (x % wordSize))
 valueOf U64 ftz x = whole (exactOf false doubleSize x)
-valueOf S32 ftz x = whole (exactOf true wordSize x)
+valueOf S32 ftz x = whole (exactOf true wordSize (x % wordSize))
 valueOf S64 ftz x = whole (exactOf true doubleSize x)
 valueOf F32 ftz x = single (ofBits binary32 (flushed ftz (x % wordSize)))
 valueOf F64 ftz x = double (ofBits binary64 x)
 
--- whole numbers by their order; lo ls hi hs are lt le gt ge
+-- whole numbers by their order; lo ls hi hs are lt le gt ge. The last clause is never met: no legal record has it
 abbrev pub wholeHolds : CmpOp → ℤ → ℤ → Bool
 wholeHolds (CmpOp.Six c) x y = holdsZ c x y
 wholeHolds (CmpOp.Unsigned Lo) x y = holdsZ Lt x y
@@ -209,7 +211,7 @@ floatHolds (CmpOp.Six Lt) x y = lt x y
 floatHolds (CmpOp.Six Le) x y = lt x y || eq x y
 floatHolds (CmpOp.Six Gt) x y = lt y x
 floatHolds (CmpOp.Six Ge) x y = lt y x || eq x y
-floatHolds (CmpOp.Unsigned c) x y = false
+floatHolds (CmpOp.Unsigned c) x y = false -- never met: no legal record has it
 floatHolds (CmpOp.Float Equ) x y = unordered x y || eq x y
 floatHolds (CmpOp.Float Neu) x y = unordered x y || not (eq x y)
 floatHolds (CmpOp.Float Ltu) x y = unordered x y || lt x y
@@ -219,7 +221,7 @@ floatHolds (CmpOp.Float Geu) x y = unordered x y || (lt y x || eq x y)
 floatHolds (CmpOp.Float Num) x y = not (unordered x y)
 floatHolds (CmpOp.Float Nan) x y = unordered x y
 
--- two values of one type
+-- two values of one type, so that the clauses on two kinds are never met
 abbrev pub valuesHold : CmpOp → Value → Value → Bool
 valuesHold op (whole x) (whole y) = wholeHolds op x y
 valuesHold op (whole x) (single y) = false

@@ -14,6 +14,7 @@ use lib.Ieee.Fits.{down-pos}
 use lib.Ieee.Nearest.{div-mono}
 use lib.Ieee.Exact.{HasValue, odd-sign}
 use lib.Ieee.Bits.{nanBits-is, nanBits-above}
+use Rattle.base.specs.Tests.{leZ-not}
 use borrow.Author.Tests.{lt-ltb, le-ltb, lt-leb, le-leb, eq-eqb, ne-eqb, ltb-true, ltb-false}
 
 -- a pattern by sign and magnitude: the sign is the highest bit, the magnitude all bits below it. Both zeros are 0
@@ -177,15 +178,6 @@ lt-pattern f x y h k =
     ∙ below-signed (leb (top f) x) (leb (top f) y) (x % top f) (y % top f)
 
 -- ---- equal: neither is less
-leb-not : (a b : ℕ) → leb a b ≡ not (ltb b a)
-leb-not a b = by-lt (λ (t : Bool). leb a b ≡ not t) b a (lt-leb a b) (le-leb a b)
-
-leZ-not : (x y : ℤ) → leZ x y ≡ not (ltZ y x)
-leZ-not (pos a) (pos b) = leb-not a b
-leZ-not (pos a) (negsuc b) = refl
-leZ-not (negsuc a) (pos b) = refl
-leZ-not (negsuc a) (negsuc b) = leb-not b a
-
 eqb-not : (a b : ℕ) → eqb a b ≡ (not (ltb b a) && not (ltb a b))
 eqb-not a b =
     by-lt (λ (p : Bool). eqb a b ≡ (not p && not (ltb a b))) b a (λ h. ne-eqb a b (omega arith))
@@ -221,7 +213,7 @@ eq-pattern f x y h k =
     ∙ sym (ap₂ _&&_ (leZ-not (signMagnitude f x) (signMagnitude f y)) (leZ-not (signMagnitude f y) (signMagnitude f x)))
 
 -- ---- where a NaN stands, neither less nor equal
-only-nan : (x : Float) → isNan x ≡ true → x ≡ nan
+pub only-nan : (x : Float) → isNan x ≡ true → x ≡ nan
 unfolding isNan
 only-nan nan h = refl
 only-nan (inf s) h = cc

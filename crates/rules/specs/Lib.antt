@@ -3,3 +3,4 @@ pub mod Execution
 pub mod Executing
 pub mod ExecutionLaws
 pub mod FloatOrder
+pub mod FloatLaws

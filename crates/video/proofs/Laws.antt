@@ -102,3 +102,14 @@ pub counted-is : (w : LaneWidth) (m : Mask) (h : ℕ → Bool) → countedOf w m
 unfolding countedOf
 counted-is Half m h = refl
 counted-is Byte m h = refl
+
+-- the counts of the code, which stop at the last lane
+pub two-counted : (m : Mask) (h : List Bool) → bit (m .lane0 && getD h 0 false) + bit (m .lane1 && getD h 1 false) ≡ countedOf Half m h
+unfolding countedOf
+two-counted m h = omega arith
+
+pub four-counted : (m : Mask) (h : List Bool)
+    → bit (m .lane0 && getD h 0 false) + (bit (m .lane1 && getD h 1 false) + (bit (m .lane2 && getD h 2 false) + bit (m .lane3 && getD h 3 false)))
+        ≡ countedOf Byte m h
+unfolding countedOf
+four-counted m h = omega arith

@@ -13,7 +13,7 @@ use Rattle.rules.specs.Execution.{maskAt, count}
 
 -- what every number is moved up by: a multiple of 2^32, far over every sum
 abbrev pub bias : ℕ
-bias = 68719476736
+bias = 2 ^ 36
 
 -- the exact number that x stands for
 abbrev pub exactly : ℕ → ℤ

@@ -22,14 +22,21 @@ ghost use Rattle.rules.specs.Numbers.{wordSize, size, lanes, partAt, joined, ex
 ghost use Rattle.rules.specs.Execution.{selectorWidth, selectorPart, selectedOf, arithZ, lowestZ, highestZ, formSize, clampedOf, op2Z, replaced, formOf, arithmeticOf, vsetOf, digitAt, maskAt, numbered, laneNumber, laneHolds, laneOf, count, lanesOf};
 ghost use Rattle.video.specs.Exact.{bias, exactly, Near, Wide, rejoinedOf, mergedOf, countedOf};
 
+// What every exact number is moved up by: 2^36.
+const BIAS: u64 = 68719476736;
+// How many values a word, a half and a byte have.
+const WORD_SIZE: u64 = 4294967296;
+const HALF_SIZE: u32 = 65536;
+const BYTE_SIZE: u32 = 256;
+
 // ---- parts of a word
 
 fn lane_size(w: LaneWidth) -> u32
     ensures { λ r. ⌜ (r ≡ size w) × (256 ≤ r) × (r ≤ 65536) ⌝ }
 {
     match w {
-        LaneWidth::Half => 65536,
-        LaneWidth::Byte => 256,
+        LaneWidth::Half => HALF_SIZE,
+        LaneWidth::Byte => BYTE_SIZE,
     }
 }
 
@@ -83,9 +90,8 @@ fn rejoin(w: LaneWidth, l: [u32; 4]) -> u32
     let l2 = wide(l[2]);
     let l3 = wide(l[3]);
     match w {
-        LaneWidth::Half => ((l0 + 65536 * (l1 + 65536 * 0)) % 4294967296) as u32,
-        LaneWidth::Byte => ((l0 + 256 * (l1 + 256 * (l2 + 256 * (l3 + 256 * 0))))
-            % 4294967296) as u32,
+        LaneWidth::Half => ((l0 + 65536 * l1) % WORD_SIZE) as u32,
+        LaneWidth::Byte => ((l0 + 256 * (l1 + 256 * (l2 + 256 * l3))) % WORD_SIZE) as u32,
     }
 }
 
@@ -107,11 +113,11 @@ fn number(signed: bool, n: u64, x: u32) -> u64
     let v = x as u64;
     if signed {
         if n <= 2 * v {
-            return v + 68719476736 - n;
+            return v + BIAS - n;
         }
-        return v + 68719476736;
+        return v + BIAS;
     }
-    v + 68719476736
+    v + BIAS
 }
 
 fn holds(op: Cmp6, x: u64, y: u64) -> bool
@@ -145,14 +151,14 @@ fn sum(x: u64, y: u64) -> u64
     requires { ⌜ Wide x × Wide y ⌝ }
     ensures { λ r. ⌜ (exactly r ≡ exactly x +ℤ exactly y) × (r + bias ≡ x + y) ⌝ }
 {
-    x + y - 68719476736
+    x + y - BIAS
 }
 
 fn difference(x: u64, y: u64) -> u64
     requires { ⌜ Near x × Near y ⌝ }
     ensures { λ r. ⌜ (exactly r ≡ exactly x -ℤ exactly y) × Wide r ⌝ }
 {
-    x + 68719476736 - y
+    x + BIAS - y
 }
 
 // ---- the operations of scalar video
@@ -180,9 +186,9 @@ fn lowest(signed: bool, n: u64) -> u64
     ensures { λ r. ⌜ (exactly r ≡ lowestZ signed n) × Wide r ⌝ }
 {
     if signed {
-        68719476736 - n / 2
+        BIAS - n / 2
     } else {
-        68719476736
+        BIAS
     }
 }
 
@@ -191,9 +197,9 @@ fn highest(signed: bool, n: u64) -> u64
     ensures { λ r. ⌜ (exactly r ≡ highestZ signed n) × Wide r ⌝ }
 {
     if signed {
-        n / 2 - 1 + 68719476736
+        n / 2 - 1 + BIAS
     } else {
-        n - 1 + 68719476736
+        n - 1 + BIAS
     }
 }
 
@@ -223,7 +229,7 @@ fn combine(op: Op2, x: u64, y: u64) -> u64
 fn low(z: u64) -> u32
     ensures { λ r. ⌜ r ≡ lowOf wordSize (exactly z) ⌝ }
 {
-    (z % 4294967296) as u32
+    (z % WORD_SIZE) as u32
 }
 
 fn low_part(w: LaneWidth, z: u64) -> u32
@@ -266,7 +272,7 @@ fn selected(t: VideoType, s: Selected, x: u32) -> u64
 {
     let sign = signed(t);
     match s {
-        Selected::Whole(_) => number(sign, 4294967296, x),
+        Selected::Whole(_) => number(sign, WORD_SIZE, x),
         Selected::Part(_, sel) => {
             let w = selector_width(sel);
             number(sign, wide(lane_size(w)), part(w, x, selector_part(sel)))
@@ -278,9 +284,9 @@ fn form_size(f: Form) -> u64
     ensures { λ r. ⌜ (r ≡ formSize f) × (2 ≤ r) × (r ≤ 2 ^ 32) ⌝ }
 {
     match f {
-        Form::Plain { .. } => 4294967296,
+        Form::Plain { .. } => WORD_SIZE,
         Form::Merge { sel, .. } => wide(lane_size(selector_width(sel))),
-        Form::Combine { .. } => 4294967296,
+        Form::Combine { .. } => WORD_SIZE,
     }
 }
 
@@ -308,7 +314,7 @@ fn formed(sign: bool, f: Form, c: u32, z: u64) -> u32
             let w = selector_width(sel);
             replace(w, selector_part(sel), c, low_part(w, z))
         }
-        Form::Combine { op, .. } => low(combine(op, z, number(sign, 4294967296, c))),
+        Form::Combine { op, .. } => low(combine(op, z, number(sign, WORD_SIZE, c))),
     }
 }
 
@@ -342,7 +348,7 @@ pub fn vset(cmp: Cmp6, s: Scalar, a: u32, b: u32, c: u32) -> u32
     let sb = s.b;
     let f = s.form;
     let t = holds(cmp, selected(ta, sa, a), selected(tb, sb, b));
-    formed(false, f, c, number(false, 4294967296, bit_of(t)))
+    formed(false, f, c, number(false, WORD_SIZE, bit_of(t)))
 }
 
 // ---- vset2 and vset4: the lanes are handled as one small group
@@ -375,11 +381,11 @@ fn parts(w: LaneWidth, x: u32) -> [u32; 4]
     [part(w, x, 0), part(w, x, 1), part(w, x, 2), part(w, x, 3)]
 }
 
-fn lane_holds(cmp: Cmp6, w: LaneWidth, sa: bool, sb: bool, x: u32, y: u32) -> bool
-    ensures { λ r. ⌜ r ≡ holdsZ cmp (exactOf sa (size w) x) (exactOf sb (size w) y) ⌝ }
+fn lane_holds(cmp: Cmp6, w: LaneWidth, asigned: bool, bsigned: bool, x: u32, y: u32) -> bool
+    ensures { λ r. ⌜ r ≡ holdsZ cmp (exactOf asigned (size w) x) (exactOf bsigned (size w) y) ⌝ }
 {
     let n = wide(lane_size(w));
-    holds(cmp, number(sa, n, x), number(sb, n, y))
+    holds(cmp, number(asigned, n, x), number(bsigned, n, y))
 }
 
 // Which lanes hold.
@@ -389,15 +395,15 @@ fn held(cmp: Cmp6, l: Lanes, a: u32, b: u32) -> [bool; 4]
     let w = l.width;
     let ta = l.atype;
     let tb = l.btype;
-    let sa = signed(ta);
-    let sb = signed(tb);
+    let asigned = signed(ta);
+    let bsigned = signed(tb);
     let x = picked(w, l.asel, a, b);
     let y = picked(w, l.bsel, a, b);
     [
-        lane_holds(cmp, w, sa, sb, x[0], y[0]),
-        lane_holds(cmp, w, sa, sb, x[1], y[1]),
-        lane_holds(cmp, w, sa, sb, x[2], y[2]),
-        lane_holds(cmp, w, sa, sb, x[3], y[3]),
+        lane_holds(cmp, w, asigned, bsigned, x[0], y[0]),
+        lane_holds(cmp, w, asigned, bsigned, x[1], y[1]),
+        lane_holds(cmp, w, asigned, bsigned, x[2], y[2]),
+        lane_holds(cmp, w, asigned, bsigned, x[3], y[3]),
     ]
 }
 
@@ -428,8 +434,8 @@ fn counted(w: LaneWidth, m: Mask, h: [bool; 4]) -> u32
     let n2 = bit_of(m.lane2 & h[2]);
     let n3 = bit_of(m.lane3 & h[3]);
     match w {
-        LaneWidth::Half => n0 + (n1 + 0),
-        LaneWidth::Byte => n0 + (n1 + (n2 + (n3 + 0))),
+        LaneWidth::Half => n0 + n1,
+        LaneWidth::Byte => n0 + (n1 + (n2 + n3)),
     }
 }
 
@@ -441,7 +447,7 @@ pub fn vset_lanes(cmp: Cmp6, l: Lanes, a: u32, b: u32, c: u32) -> u32
     let m = l.mask;
     let h = held(cmp, l, a, b);
     if l.add {
-        return ((wide(c) + wide(counted(w, m, h))) % 4294967296) as u32;
+        return ((wide(c) + wide(counted(w, m, h))) % WORD_SIZE) as u32;
     }
     rejoin(w, merged(m, h, parts(w, c)))
 }

@@ -112,4 +112,4 @@ pub execute-one-outcome :
     → (x ≡ y) × (now (s .1 .0) ≡ now (t .1 .0)) × (now (s .1 .1 .0) ≡ now (t .1 .1 .0)) × (now (s .1 .1 .1 .0) ≡ now (t .1 .1 .1 .0))
 execute-one-outcome κs a x y s t p q =
     let z = one-outcome p q in
-    (answers-one x y (ap (λ (o : Outcome). o .answer) z), ap (λ (o : Outcome). o .left .words) z, ap (λ (o : Outcome). o .left .doubles) z, ap (λ (o : Outcome). o .left .preds) z)
+    (answers-one x y (ap (λ (o : Outcome). o .answer) z), ap (λ (o : Outcome). o .files .words) z, ap (λ (o : Outcome). o .files .doubles) z, ap (λ (o : Outcome). o .files .preds) z)
