@@ -25,14 +25,20 @@ pub enum Compared {
 
 // How many values a word has, and half of that; half of a double's.
 const WORD_SIZE: u64 = 4294967296;
+
 const HALF_OF_WORDS: u64 = 2147483648;
+
 const HALF_OF_DOUBLES: u64 = 9223372036854775808;
 
 // f32: the sign's weight, the smallest normal number and infinity, as patterns. f64: the sign's weight and infinity.
 const SIGN32: u32 = 0x80000000;
+
 const NORMAL32: u32 = 0x00800000;
+
 const INFINITY32: u32 = 0x7f800000;
+
 const SIGN64: u64 = 0x8000000000000000;
+
 const INFINITY64: u64 = 0x7ff0000000000000;
 
 // A signed number with half of its range on either side of zero, moved up by that half.

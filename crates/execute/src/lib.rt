@@ -39,13 +39,18 @@ pub enum Executed {
 
 // The lengths of the files, and how many values a word has.
 const WORDS: usize = 64;
+
 const DOUBLES: usize = 32;
+
 const PREDS: usize = 16;
+
 const WORD_SIZE: u64 = 4294967296;
 
 // The refusals of executing.
 const NOT_LEGAL: u8 = 8;
+
 const WRONG_SIZES: u8 = 10;
+
 const WRONG_PREDS: u8 = 11;
 
 // ---- registers: no place past the end is read or written

@@ -110,6 +110,6 @@ two-counted m h = omega arith
 
 pub four-counted : (m : Mask) (h : List Bool)
     → bit (m .lane0 && getD h 0 false) + (bit (m .lane1 && getD h 1 false) + (bit (m .lane2 && getD h 2 false) + bit (m .lane3 && getD h 3 false)))
-        ≡ countedOf Byte m h
+    ≡ countedOf Byte m h
 unfolding countedOf
 four-counted m h = omega arith

@@ -26,7 +26,9 @@ ghost use Rattle.video.specs.Exact.{bias, exactly, Near, Wide, rejoinedO
 const BIAS: u64 = 68719476736;
 // How many values a word, a half and a byte have.
 const WORD_SIZE: u64 = 4294967296;
+
 const HALF_SIZE: u32 = 65536;
+
 const BYTE_SIZE: u32 = 256;
 
 // ---- parts of a word
@@ -185,11 +187,7 @@ fn lowest(signed: bool, n: u64) -> u64
     requires { ⌜ n ≤ 2 ^ 32 ⌝ }
     ensures { λ r. ⌜ (exactly r ≡ lowestZ signed n) × Wide r ⌝ }
 {
-    if signed {
-        BIAS - n / 2
-    } else {
-        BIAS
-    }
+    if signed { BIAS - n / 2 } else { BIAS }
 }
 
 fn highest(signed: bool, n: u64) -> u64

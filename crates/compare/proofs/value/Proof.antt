@@ -98,35 +98,39 @@ returns-4 c =
 returns-5 : tie.Need-returns-5
 unfolding comparedOf
 returns-5 c =
-    simp
-    (c .moved .ensures,
-    c .before .enum-told5 .given .1)
+    simp (
+      c .moved .ensures,
+      c .before .enum-told5 .given .1,
+    )
 
 -- src/lib.rt:87:1
 returns-6 : tie.Need-returns-6
 unfolding comparedOf
 returns-6 c =
-    simp
-    (c .moved2 .ensures,
-    c .before .enum-told6 .given .1)
+    simp (
+      c .moved2 .ensures,
+      c .before .enum-told6 .given .1,
+    )
 
 -- src/lib.rt:87:1
 returns-7 : tie.Need-returns-7
 unfolding comparedOf
 returns-7 c =
-    simp
-    (c .single .ensures,
-    c .before .flush .ensures,
-    c .before .before .low-word .ensures,
-    c .before .before .before .enum-told7 .given .1)
+    simp (
+      c .single .ensures,
+      c .before .flush .ensures,
+      c .before .before .low-word .ensures,
+      c .before .before .before .enum-told7 .given .1,
+    )
 
 -- src/lib.rt:87:1
 returns-8 : tie.Need-returns-8
 unfolding comparedOf
 returns-8 c =
-    simp
-    (c .double .ensures,
-    c .before .enum-told8 .given .1)
+    simp (
+      c .double .ensures,
+      c .before .enum-told8 .given .1,
+    )
 
 pub value-spec : {M : Type 1} → statement M
 value-spec =

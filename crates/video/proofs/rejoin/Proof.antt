@@ -91,21 +91,27 @@ cast-result-2 c = search needs
 returns : tie.Need-returns
 unfolding rejoinedOf
 returns c =
-    simp
-    (add-zero, mul-zero, c .enum-told .given .1,
-    c .before .before .before .before .wide2 .ensures .0,
-    c .before .before .before .before .before .wide .ensures .0)
+    simp (
+      add-zero,
+      mul-zero,
+      c .enum-told .given .1,
+      c .before .before .before .before .wide2 .ensures .0,
+      c .before .before .before .before .before .wide .ensures .0,
+    )
 
 -- src/lib.rt:85:1
 returns-2 : tie.Need-returns-2
 unfolding rejoinedOf
 returns-2 c =
-    simp
-    (add-zero, mul-zero, c .enum-told2 .given .1,
-    c .before .before .wide4 .ensures .0,
-    c .before .before .before .wide3 .ensures .0,
-    c .before .before .before .before .wide2 .ensures .0,
-    c .before .before .before .before .before .wide .ensures .0)
+    simp (
+      add-zero,
+      mul-zero,
+      c .enum-told2 .given .1,
+      c .before .before .wide4 .ensures .0,
+      c .before .before .before .wide3 .ensures .0,
+      c .before .before .before .before .wide2 .ensures .0,
+      c .before .before .before .before .before .wide .ensures .0,
+    )
 
 pub rejoin-spec : {M : Type 1} → statement M
 rejoin-spec =

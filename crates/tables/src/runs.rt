@@ -1,21 +1,27 @@
-// Runs `execute` on records of every opcode and modifier and prints what comes out, in tables. `%r0`, `%r1`, `%r2` hold a, b, c and d is
-// `%r3`; doubles and predicates likewise. The file stdout was made by a program written from document 01 alone, apart from this one.
+// Runs of `execute` on records of every opcode and modifier. `%r0`, `%r1`, `%r2` hold a, b, c and d is `%r3`; doubles and predicates likewise.
+use crate::samples::always;
+use crate::samples::cmp_at;
+use crate::samples::double_at;
+use crate::samples::mask_of;
+use crate::samples::sign_at;
+use crate::samples::six_at;
+use crate::samples::source;
+use crate::samples::type_at;
+use crate::samples::word_at;
+use crate::say;
 use execute::Executed;
 use libc::STDOUT_FILENO;
 use record::Arith;
 use record::BoolOp;
 use record::Choice;
 use record::Cmp6;
-use record::CmpF;
 use record::CmpOp;
-use record::CmpU;
 use record::Combination;
 use record::Comparison;
 use record::Condition;
 use record::DataType;
 use record::Destination;
 use record::Digits;
-use record::Double;
 use record::Form;
 use record::Guard;
 use record::Instruction;
@@ -33,10 +39,6 @@ use record::SetType;
 use record::SlctType;
 use record::VideoType;
 use record::Word;
-
-fn say(s: &[u8]) {
-    io::write_all(STDOUT_FILENO, s);
-}
 
 // ---- one run
 
@@ -56,8 +58,9 @@ struct After {
     answer: u8,
     word: u32,
     double: u64,
-    first: u8,
-    second: u8,
+    pred0: u8,
+    pred1: u8,
+    pred2: u8,
 }
 
 fn number_of(e: Executed) -> u8 {
@@ -85,15 +88,9 @@ fn run(r: Record, v: Before) -> After {
         answer: answer,
         word: words[3],
         double: doubles[3],
-        first: preds[1],
-        second: preds[2],
-    }
-}
-
-fn always(i: Instruction) -> Record {
-    Record {
-        guard: Guard::Always,
-        instruction: i,
+        pred0: preds[0],
+        pred1: preds[1],
+        pred2: preds[2],
     }
 }
 
@@ -109,8 +106,17 @@ fn words_before(a: u32, b: u32, c: u32) -> Before {
     }
 }
 
-fn print_word(r: Record, v: Before) {
+// A run that has to be done: any other answer spoils the table.
+fn done(r: Record, v: Before) -> After {
     let after = run(r, v);
+    if after.answer != 0 {
+        say(b"not done: ");
+    }
+    after
+}
+
+fn print_word(r: Record, v: Before) {
+    let after = done(r, v);
     io::print_hex(STDOUT_FILENO, after.word as u64, 8);
     say(b" ");
 }
@@ -123,120 +129,7 @@ fn print_bit(t: bool) {
     }
 }
 
-// ---- values: both zeros, subnormals, normals, infinities, NaNs of both kinds and signs, and what they are as whole numbers
-
-fn word_at(k: u32) -> u32 {
-    match k {
-        0 => 0x00000000,
-        1 => 0x80000000,
-        2 => 0x00000001,
-        3 => 0x80000001,
-        4 => 0x007fffff,
-        5 => 0x807fffff,
-        6 => 0x00800000,
-        7 => 0x80800000,
-        8 => 0x3f800000,
-        9 => 0xbf800000,
-        10 => 0x7f7fffff,
-        11 => 0x7f800000,
-        12 => 0xff800000,
-        13 => 0x7fc00000,
-        14 => 0x7f800001,
-        15 => 0xff800001,
-        16 => 0x7fffffff,
-        _ => 0xffffffff,
-    }
-}
-
-fn double_at(k: u32) -> u64 {
-    match k {
-        0 => 0x0000000000000000,
-        1 => 0x8000000000000000,
-        2 => 0x0000000000000001,
-        3 => 0x8000000000000001,
-        4 => 0x000fffffffffffff,
-        5 => 0x800fffffffffffff,
-        6 => 0x0010000000000000,
-        7 => 0x8010000000000000,
-        8 => 0x3ff0000000000000,
-        9 => 0xbff0000000000000,
-        10 => 0x7fefffffffffffff,
-        11 => 0x7ff0000000000000,
-        12 => 0xfff0000000000000,
-        13 => 0x7ff8000000000000,
-        14 => 0x7ff0000000000001,
-        15 => 0xfff0000000000001,
-        16 => 0x7fffffffffffffff,
-        _ => 0xffffffffffffffff,
-    }
-}
-
 // ---- comparisons: set for every stype, CmpOp and ftz, on every two values
-
-fn type_at(k: u32) -> DataType {
-    match k {
-        0 => DataType::B32,
-        1 => DataType::B64,
-        2 => DataType::U32,
-        3 => DataType::U64,
-        4 => DataType::S32,
-        5 => DataType::S64,
-        6 => DataType::F32,
-        _ => DataType::F64,
-    }
-}
-
-fn six_at(k: u32) -> Cmp6 {
-    match k {
-        0 => Cmp6::Eq,
-        1 => Cmp6::Ne,
-        2 => Cmp6::Lt,
-        3 => Cmp6::Le,
-        4 => Cmp6::Gt,
-        _ => Cmp6::Ge,
-    }
-}
-
-fn unsigned_at(k: u32) -> CmpU {
-    match k {
-        6 => CmpU::Lo,
-        7 => CmpU::Ls,
-        8 => CmpU::Hi,
-        _ => CmpU::Hs,
-    }
-}
-
-fn float_at(k: u32) -> CmpF {
-    match k {
-        10 => CmpF::Equ,
-        11 => CmpF::Neu,
-        12 => CmpF::Ltu,
-        13 => CmpF::Leu,
-        14 => CmpF::Gtu,
-        15 => CmpF::Geu,
-        16 => CmpF::Num,
-        _ => CmpF::Nan,
-    }
-}
-
-fn cmp_at(k: u32) -> CmpOp {
-    if k < 6 {
-        return CmpOp::Six(six_at(k));
-    }
-    if k < 10 {
-        return CmpOp::Unsigned(unsigned_at(k));
-    }
-    CmpOp::Float(float_at(k))
-}
-
-// Types stand in pairs, the narrow one first.
-fn source(t: u32, n: u16) -> Operand {
-    if t % 2 == 0 {
-        Operand::Word(Word(n))
-    } else {
-        Operand::Double(Double(n))
-    }
-}
 
 fn compared(t: u32, op: u32, ftz: bool) -> Comparison {
     Comparison {
@@ -267,7 +160,7 @@ fn print_compared(t: u32, ftz: bool, op: u32, k: u32) {
         d: Word(3),
         comparison: compared(t, op, ftz),
     });
-    let after = run(r, values_before(k));
+    let after = done(r, values_before(k));
     print_bit(after.word == 0xffffffff);
 }
 
@@ -282,7 +175,7 @@ fn bool_at(k: u32, c: Condition) -> Combination {
     }
 }
 
-// Destination 2 has c itself, predicate 0, as its second place's neighbour: it is read before it is written.
+// Destination 2 has c itself, predicate 0, as its first place: c is read before it is written.
 fn destination_at(k: u32) -> Destination {
     match k {
         0 => Destination::One(Pred(1)),
@@ -293,39 +186,77 @@ fn destination_at(k: u32) -> Destination {
     }
 }
 
-// Row: BoolOp and `!`. Column: destination, c, and whether -1 < b.
-fn print_setp(row: u32, k: u32) {
+// -1 < b and not, with c and the places' values before.
+fn combined_before(k: u32) -> Before {
+    Before {
+        a: 0xffffffff,
+        b: if k % 2 == 0 { 0u32 } else { 0xfffffffe },
+        c: 0,
+        x: 0,
+        y: 0,
+        p: (k / 2 % 2) as u8,
+        q: 1,
+    }
+}
+
+fn combined(k: u32) -> Comparison {
     let c = Condition {
-        inverted: row % 2 == 1,
+        inverted: k % 2 == 1,
         pred: Pred(0),
     };
+    Comparison {
+        cmp: CmpOp::Six(Cmp6::Lt),
+        combination: bool_at(k / 2, c),
+        ftz: false,
+        stype: DataType::S32,
+        a: source(0, 0),
+        b: source(0, 1),
+    }
+}
+
+// Row: BoolOp and `!`. Column: destination, c, and whether -1 < b. Predicates 0, 1 and 2 are shown.
+fn print_setp(row: u32, k: u32) {
     let r = always(Instruction::Setp {
         d: destination_at(k / 4),
-        comparison: Comparison {
-            cmp: CmpOp::Six(Cmp6::Lt),
-            combination: bool_at(row / 2, c),
-            ftz: false,
-            stype: DataType::S32,
-            a: source(0, 0),
-            b: source(0, 1),
-        },
+        comparison: combined(row),
     });
-    let b = if k % 2 == 0 { 0u32 } else { 0xfffffffe };
-    let after = run(
-        r,
-        Before {
-            a: 0xffffffff,
-            b: b,
-            c: 0,
-            x: 0,
-            y: 0,
-            p: (k / 2 % 2) as u8,
-            q: 1,
-        },
-    );
-    print_bit(after.first == 1);
-    print_bit(after.second == 1);
+    let after = done(r, combined_before(k));
+    print_bit(after.pred0 == 1);
+    print_bit(after.pred1 == 1);
+    print_bit(after.pred2 == 1);
     say(b" ");
+}
+
+fn set_type_at(k: u32) -> SetType {
+    match k {
+        0 => SetType::U32,
+        1 => SetType::S32,
+        _ => SetType::F32,
+    }
+}
+
+// Row: BoolOp, `!` and dtype. Column: c, and whether -1 < b.
+fn print_set(row: u32, k: u32) {
+    let r = always(Instruction::Set {
+        dtype: set_type_at(row % 3),
+        d: Word(3),
+        comparison: combined(row / 3),
+    });
+    print_word(r, combined_before(k));
+}
+
+// Row: stype, then f32 with ftz. Column: two values. The second place is shown by a mark where it is not the opposite.
+fn print_setp_eq(row: u32, k: u32) {
+    let t = if row < 8 { row } else { 6 };
+    let r = always(Instruction::Setp {
+        d: Destination::Pair(Pred(1), Pred(2)),
+        comparison: compared(t, 0, row == 8),
+    });
+    let after = done(r, values_before(k));
+    print_bit(after.pred1 == 1);
+    if after.pred1 == after.pred2 {
+        say(b"!");
+    }
 }
 
 // ---- scalar video: every opcode, types, sat, form and selector
@@ -337,14 +268,6 @@ fn arith_at(k: u32) -> Arith {
         2 => Arith::Vabsdiff,
         3 => Arith::Vmin,
         _ => Arith::Vmax,
-    }
-}
-
-fn sign_at(k: u32) -> VideoType {
-    if k % 2 == 0 {
-        VideoType::U32
-    } else {
-        VideoType::S32
     }
 }
 
@@ -435,13 +358,7 @@ fn print_vset(row: u32, k: u32) {
 // ---- vset2 and vset4: every width, comparison, types, add, and some masks and selectors
 
 fn mask_at(half: bool, k: u32) -> Mask {
-    let m = if half { k % 3 + 1 } else { k % 15 + 1 };
-    Mask {
-        lane0: m % 2 == 1,
-        lane1: m / 2 % 2 == 1,
-        lane2: m / 4 % 2 == 1,
-        lane3: m / 8 % 2 == 1,
-    }
+    mask_of(if half { k % 3 + 1 } else { k % 15 + 1 })
 }
 
 // Lane i takes part k + i * step, counted around.
@@ -526,7 +443,7 @@ fn choice_before(c: u32, p: u8) -> Before {
 }
 
 fn print_choice(t: u32, r: Record, v: Before) {
-    let after = run(r, v);
+    let after = done(r, v);
     if t % 2 == 0 {
         io::print_hex(STDOUT_FILENO, after.word as u64, 8);
     } else {
@@ -571,14 +488,13 @@ fn guard_at(k: u32) -> Guard {
     }
 }
 
-// Row: no guard, %p0, !%p0. Column: predicate 0 is 0, 1, or 2, which is refused; then the same with `%r64` as d.
+// Row: no guard, %p0, !%p0. Column: predicate 0 is 0, 1, or 2, which is refused.
 fn print_guarded(row: u32, k: u32) {
-    let d = if k < 3 { 3 } else { 64 };
     let r = Record {
         guard: guard_at(row),
         instruction: Instruction::Set {
             dtype: SetType::U32,
-            d: Word(d),
+            d: Word(3),
             comparison: compared(0, 0, false),
         },
     };
@@ -613,13 +529,13 @@ fn copies(n: u16) -> Record {
     })
 }
 
-// On the files as they are; without the first p predicates; the first d doubles; the first w words.
 fn print_on(r: Record, words: &mut [u32], doubles: &mut [u64], preds: &mut [u8]) {
     let e = execute::execute(r, words, doubles, preds);
     io::print_decimal(STDOUT_FILENO, number_of(e) as u64);
     say(b" ");
 }
 
+// Without the first p predicates; the first d doubles; the first w words.
 fn print_preds(r: Record, words: &mut [u32], doubles: &mut [u64], preds: &mut [u8], p: usize) {
     if p <= preds.len() {
         print_on(r, words, doubles, &mut preds[p..]);
@@ -663,8 +579,7 @@ fn print_sized(n: u16, w: usize, d: usize, p: usize, v: u8) {
 }
 
 // Lengths are looked at before predicates, and legality before both.
-fn print_sizes() {
-    say(b"refusals by file lengths, predicate bytes and legality\n");
+pub(crate) fn refusals() {
     print_sized(3, 1, 1, 1, 1);
     print_sized(3, 2, 1, 1, 1);
     print_sized(3, 0, 1, 1, 1);
@@ -682,7 +597,7 @@ fn print_sizes() {
     say(b"\n");
 }
 
-// ---- the figures of document 01 that are not starred, and the starred ones that the tables above do not have
+// ---- the figures of document 01
 
 fn lanes_figure(half: bool, atype: u32, cmp: Cmp6, add: bool, m: u32, asel: Digits) -> Record {
     always(Instruction::VsetLanes {
@@ -777,7 +692,7 @@ fn set_figures() {
     print_word(set_figure(0, true, SetType::U32), v);
 }
 
-fn figures() {
+pub(crate) fn figures() {
     say(b"figures: vset4 three, vset2 two\n");
     lanes_figures();
     say(b"\nvadd two, vsub two, vadd into b1 two, vabsdiff two\n");
@@ -789,9 +704,11 @@ fn figures() {
 
 // ---- the tables
 
-enum Table {
+pub(crate) enum Chart {
     Compared { t: u32, ftz: bool },
     Setp,
+    Set,
+    SetpEq,
     Arithmetic,
     Vset,
     Lanes,
@@ -800,72 +717,17 @@ enum Table {
     Guarded,
 }
 
-fn print_cell(t: Table, row: u32, k: u32) {
+pub(crate) fn print_cell(t: Chart, row: u32, k: u32) {
     match t {
-        Table::Compared { t, ftz } => print_compared(t, ftz, row, k),
-        Table::Setp => print_setp(row, k),
-        Table::Arithmetic => print_arithmetic(row, k),
-        Table::Vset => print_vset(row, k),
-        Table::Lanes => print_lanes(row, k),
-        Table::Slct => print_slct(row, k),
-        Table::Selp => print_selp(row, k),
-        Table::Guarded => print_guarded(row, k),
+        Chart::Compared { t, ftz } => print_compared(t, ftz, row, k),
+        Chart::Setp => print_setp(row, k),
+        Chart::Set => print_set(row, k),
+        Chart::SetpEq => print_setp_eq(row, k),
+        Chart::Arithmetic => print_arithmetic(row, k),
+        Chart::Vset => print_vset(row, k),
+        Chart::Lanes => print_lanes(row, k),
+        Chart::Slct => print_slct(row, k),
+        Chart::Selp => print_selp(row, k),
+        Chart::Guarded => print_guarded(row, k),
     }
-}
-
-fn show_row(t: Table, row: u32, columns: u32) {
-    for k in 0..columns {
-        print_cell(t, row, k);
-    }
-    say(b"\n");
-}
-
-fn show_rows(t: Table, from: u32, to: u32, columns: u32) {
-    for row in from..to {
-        show_row(t, row, columns);
-    }
-}
-
-// The comparisons that a type has: those from a row up to another.
-fn compare_rows(t: u32, ftz: bool, from: u32, to: u32) {
-    show_rows(Table::Compared { t: t, ftz: ftz }, from, to, 324);
-}
-
-fn comparisons() {
-    say(b"set on 18 by 18 values: b32, b64\n");
-    compare_rows(0, false, 0, 2);
-    compare_rows(1, false, 0, 2);
-    say(b"u32, u64\n");
-    compare_rows(2, false, 0, 10);
-    compare_rows(3, false, 0, 10);
-    say(b"s32, s64\n");
-    compare_rows(4, false, 0, 6);
-    compare_rows(5, false, 0, 6);
-    say(b"f32, f64, f32 with ftz\n");
-    compare_rows(6, false, 0, 6);
-    compare_rows(6, false, 10, 18);
-    compare_rows(7, false, 0, 6);
-    compare_rows(7, false, 10, 18);
-    compare_rows(6, true, 0, 6);
-    compare_rows(6, true, 10, 18);
-}
-
-fn main() {
-    figures();
-    comparisons();
-    say(b"setp\n");
-    show_rows(Table::Setp, 0, 8, 20);
-    say(b"scalar arithmetic\n");
-    show_rows(Table::Arithmetic, 0, 80, 30);
-    say(b"vset\n");
-    show_rows(Table::Vset, 0, 24, 30);
-    say(b"vset2, vset4\n");
-    show_rows(Table::Lanes, 0, 48, 30);
-    say(b"slct\n");
-    show_rows(Table::Slct, 0, 24, 18);
-    say(b"selp\n");
-    show_rows(Table::Selp, 0, 8, 2);
-    say(b"guards\n");
-    show_rows(Table::Guarded, 0, 3, 6);
-    print_sizes();
 }

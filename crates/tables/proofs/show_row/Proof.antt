@@ -1,7 +1,7 @@
 use Prim.Native.Nat.{_≤_, _-_}
 use borrow.Author.Needs.{needs}
-use Rattle.records.proofs.show_row.Statement.{statement}
-use Rattle.records.proofs.show_row.Tie as tie
+use Rattle.tables.proofs.show_row.Statement.{statement}
+use Rattle.tables.proofs.show_row.Tie as tie
 
 abbrev Inv-loop : tie.InvT-loop
 Inv-loop t row columns k₀ t5 k = k ≤ columns
@@ -12,11 +12,8 @@ abbrev μ-loop : tie.MeasureT-loop
 loop-holds : tie.Need-loop-holds Inv-loop μ-loop
 loop-holds c = search needs
 
-record-in-requires : tie.Need-record-in-requires Inv-loop μ-loop
-record-in-requires c κs = search needs
-
-sign-requires : tie.Need-sign-requires Inv-loop μ-loop
-sign-requires c κs = search needs
+print-cell-requires : tie.Need-print-cell-requires Inv-loop μ-loop
+print-cell-requires c κs = search needs
 
 add-k : tie.Need-add-k Inv-loop μ-loop
 add-k c = search needs
@@ -43,8 +40,7 @@ show-row-spec =
     Inv-loop
     μ-loop
     loop-holds
-    record-in-requires
-    sign-requires
+    print-cell-requires
     add-k
     loop-less
     loop-again

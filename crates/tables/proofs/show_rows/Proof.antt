@@ -1,7 +1,7 @@
 use Prim.Native.Nat.{_≤_, _-_}
 use borrow.Author.Needs.{needs}
-use Rattle.executions.proofs.show_rows.Statement.{statement}
-use Rattle.executions.proofs.show_rows.Tie as tie
+use Rattle.tables.proofs.show_rows.Statement.{statement}
+use Rattle.tables.proofs.show_rows.Tie as tie
 
 abbrev Inv-loop : tie.InvT-loop
 Inv-loop t from to columns row₀ row = Unit {0}
