@@ -1,10 +1,10 @@
 -- What the proofs of this crate cite: the code's values against the rules'. Assumes nothing.
-use Prim.Native.Nat.{ℕ, suc, _+_, _-_, _*_, _%_, _^_, _<_, _≤_}
+use Prim.Native.Nat.{ℕ, _+_, _-_, _*_, _%_, _^_, _<_, _≤_}
 use native.Mathlib.Omega.{arith}
 use mathlib.Core.Path.{_≡_, refl, sym, ap, ap₂, subst, _∙_}
-use mathlib.Core.Bool.{Bool, true, false, not, cond, _&&_, _||_}
+use mathlib.Core.Bool.{Bool, true, false, not, cond, _||_}
 use lib.IntN.{ℤ, pos, subℕ}
-use lib.Signed.{ltZ, leZ}
+use lib.Signed.{leZ}
 use lib.Dec.{T, ltb, leb, eqb}
 use lib.Ieee.{Float, nan, inf, fin, Format, binary32, binary64, isNan, nanBits, ofBits, ofFields, div, lt, eq, ne, ones, hid, top, odd, span, climb}
 use lib.Ieee.Bits.{nanBits-is, nanBits-above}
@@ -19,7 +19,7 @@ use Rattle.record.specs.declared.CmpF.the-variants.{Equ, Neu, Ltu, Leu, Gtu, Ge
 use Rattle.record.specs.declared.CmpOp
 use Rattle.record.specs.declared.CmpOp.{CmpOp}
 use Rattle.base.specs.Tests.{leb-not}
-use Rattle.base.specs.Moved.{un, un-low, un-high, un-up, un-down, un-lt, un-le, un-eq}
+use Rattle.base.specs.Moved.{un, un-high, un-up, un-down, un-lt, un-le, un-eq}
 use Rattle.rules.specs.Numbers.{wordSize, exactOf, holdsZ}
 use Rattle.rules.specs.FloatOrder.{only-nan}
 use Rattle.rules.specs.Execution.{valueOf, wholeHolds, floatHolds, comparisonOf}

@@ -1,7 +1,7 @@
 -- The code's side of comparison: a whole number is kept moved up by half of its range where its type has a sign. Laws join it to the rules.
 use Prim.Native.Nat.{ℕ, _+_, _-_, _%_, _^_}
-use mathlib.Core.Bool.{Bool, true, false, not, _&&_, _||_, cond}
-use lib.Dec.{ltb, leb, eqb}
+use mathlib.Core.Bool.{Bool, false, not, _&&_, _||_, cond}
+use lib.Dec.{ltb, eqb}
 use lib.Ieee.{Float, binary32, binary64, ofBits}
 use Rattle.record.specs.declared.DataType.{DataType}
 use Rattle.record.specs.declared.DataType.the-variants.{B32, B64, U32, U64, S32, S64, F32, F64}

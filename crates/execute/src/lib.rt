@@ -21,14 +21,13 @@ use record::SlctType;
 use record::VideoType;
 use record::Word;
 ghost use mathlib.Core.Path.{_≡_};
-ghost use mathlib.Core.Bool.{cond, not};
+ghost use mathlib.Core.Bool.{cond};
 ghost use Prim.Native.Nat.{_%_};
 ghost use lib.ListN.{getD, set};
 ghost use Rattle.rules.specs.Numbers.{bit, wordSize};
-ghost use Rattle.rules.specs.Execution.{arithmeticOf, vsetOf, lanesOf, setOf, selpOf, slctOf};
 ghost use Rattle.rules.specs.Executing.{files, wordOf, predOf, operandOf, selectedWord, formC, formD, conditionHolds, combinedOf, testOf, after, sizesFit, predsFit, guardHolds, firstRefusal, outcome, run};
 ghost use Rattle.execute.specs.Answers.{answerOf};
-ghost use Rattle.execute.specs.Mirror.{wordsWith, doublesWith, predsWith};
+ghost use Rattle.execute.specs.Mirror.{wordsWith, doublesWith, predsWith, arithmeticWords, vsetWords, lanesWords, setWords, setpPreds, eitherOf, selpValue, slctValue};
 
 // Done, skipped (guard false), or refused with document 01's number.
 pub enum Executed {
@@ -168,7 +167,7 @@ fn form_d(f: Form) -> Word
 }
 
 fn do_arithmetic(op: Arith, dtype: VideoType, sat: bool, s: Scalar, words: &mut [u32])
-    ensures { λ _. ⌜ now (words .exit) ≡ set (now (words .entry)) (formD (s .form) .0) (arithmeticOf op dtype sat s (wordOf (now (words .entry)) (selectedWord (s .a))) (wordOf (now (words .entry)) (selectedWord (s .b))) (formC (now (words .entry)) (s .form))) ⌝ }
+    ensures { λ _. ⌜ now (words .exit) ≡ arithmeticWords op dtype sat s (now (words .entry)) ⌝ }
 {
     let sa = s.a;
     let sb = s.b;
@@ -184,7 +183,7 @@ fn do_arithmetic(op: Arith, dtype: VideoType, sat: bool, s: Scalar, words: &mut 
 }
 
 fn do_vset(cmp: Cmp6, s: Scalar, words: &mut [u32])
-    ensures { λ _. ⌜ now (words .exit) ≡ set (now (words .entry)) (formD (s .form) .0) (vsetOf cmp s (wordOf (now (words .entry)) (selectedWord (s .a))) (wordOf (now (words .entry)) (selectedWord (s .b))) (formC (now (words .entry)) (s .form))) ⌝ }
+    ensures { λ _. ⌜ now (words .exit) ≡ vsetWords cmp s (now (words .entry)) ⌝ }
 {
     let sa = s.a;
     let sb = s.b;
@@ -196,7 +195,7 @@ fn do_vset(cmp: Cmp6, s: Scalar, words: &mut [u32])
 }
 
 fn do_lanes(cmp: Cmp6, l: Lanes, words: &mut [u32])
-    ensures { λ _. ⌜ now (words .exit) ≡ set (now (words .entry)) (l .d .0) (lanesOf cmp l (wordOf (now (words .entry)) (l .a)) (wordOf (now (words .entry)) (l .b)) (wordOf (now (words .entry)) (l .c))) ⌝ }
+    ensures { λ _. ⌜ now (words .exit) ≡ lanesWords cmp l (now (words .entry)) ⌝ }
 {
     let a = get_word(words, l.a);
     let b = get_word(words, l.b);
@@ -234,7 +233,7 @@ fn test(s: Comparison, words: &[u32], doubles: &[u64]) -> bool
 }
 
 fn do_set(dtype: SetType, d: Word, s: Comparison, words: &mut [u32], doubles: &[u64], preds: &[u8])
-    ensures { λ _. ⌜ now (words .exit) ≡ set (now (words .entry)) (d .0) (setOf dtype (combinedOf (now (preds .entry)) (s .combination) (testOf (now (words .entry)) (now (doubles .entry)) s))) ⌝ }
+    ensures { λ _. ⌜ now (words .exit) ≡ setWords dtype d s (now (words .entry)) (now (doubles .entry)) (now (preds .entry)) ⌝ }
 {
     let combination = s.combination;
     let t = test(s, words, doubles);
@@ -268,7 +267,7 @@ fn put_destination(d: Destination, first: bool, second: bool, preds: &mut [u8])
 }
 
 fn do_setp(d: Destination, s: Comparison, words: &[u32], doubles: &[u64], preds: &mut [u8])
-    ensures { λ _. ⌜ now (preds .exit) ≡ predsWith d (combinedOf (now (preds .entry)) (s .combination) (testOf (now (words .entry)) (now (doubles .entry)) s)) (combinedOf (now (preds .entry)) (s .combination) (not (testOf (now (words .entry)) (now (doubles .entry)) s))) (now (preds .entry)) ⌝ }
+    ensures { λ _. ⌜ now (preds .exit) ≡ setpPreds d s (now (words .entry)) (now (doubles .entry)) (now (preds .entry)) ⌝ }
 {
     let combination = s.combination;
     let t = test(s, words, doubles);
@@ -286,8 +285,8 @@ fn chosen(first: bool, a: u64, b: u64) -> u64
 }
 
 fn do_choice(first: bool, s: Choice, words: &mut [u32], doubles: &mut [u64])
-    ensures { λ _. ⌜ now (words .exit) ≡ wordsWith (s .d) (cond first (operandOf (now (words .entry)) (now (doubles .entry)) (s .a)) (operandOf (now (words .entry)) (now (doubles .entry)) (s .b))) (now (words .entry)) ⌝ }
-    ensures { λ _. ⌜ now (doubles .exit) ≡ doublesWith (s .d) (cond first (operandOf (now (words .entry)) (now (doubles .entry)) (s .a)) (operandOf (now (words .entry)) (now (doubles .entry)) (s .b))) (now (doubles .entry)) ⌝ }
+    ensures { λ _. ⌜ now (words .exit) ≡ wordsWith (s .d) (eitherOf first s (now (words .entry)) (now (doubles .entry))) (now (words .entry)) ⌝ }
+    ensures { λ _. ⌜ now (doubles .exit) ≡ doublesWith (s .d) (eitherOf first s (now (words .entry)) (now (doubles .entry))) (now (doubles .entry)) ⌝ }
 {
     let d = s.d;
     let a = s.a;
@@ -298,16 +297,16 @@ fn do_choice(first: bool, s: Choice, words: &mut [u32], doubles: &mut [u64])
 }
 
 fn do_selp(c: Pred, s: Choice, words: &mut [u32], doubles: &mut [u64], preds: &[u8])
-    ensures { λ _. ⌜ now (words .exit) ≡ wordsWith (s .d) (selpOf (predOf (now (preds .entry)) c) (operandOf (now (words .entry)) (now (doubles .entry)) (s .a)) (operandOf (now (words .entry)) (now (doubles .entry)) (s .b))) (now (words .entry)) ⌝ }
-    ensures { λ _. ⌜ now (doubles .exit) ≡ doublesWith (s .d) (selpOf (predOf (now (preds .entry)) c) (operandOf (now (words .entry)) (now (doubles .entry)) (s .a)) (operandOf (now (words .entry)) (now (doubles .entry)) (s .b))) (now (doubles .entry)) ⌝ }
+    ensures { λ _. ⌜ now (words .exit) ≡ wordsWith (s .d) (selpValue c s (now (words .entry)) (now (doubles .entry)) (now (preds .entry))) (now (words .entry)) ⌝ }
+    ensures { λ _. ⌜ now (doubles .exit) ≡ doublesWith (s .d) (selpValue c s (now (words .entry)) (now (doubles .entry)) (now (preds .entry))) (now (doubles .entry)) ⌝ }
 {
     let first = get_pred(preds, c) == 1;
     do_choice(first, s, words, doubles);
 }
 
 fn do_slct(ctype: SlctType, c: Word, s: Choice, words: &mut [u32], doubles: &mut [u64])
-    ensures { λ _. ⌜ now (words .exit) ≡ wordsWith (s .d) (slctOf ctype (wordOf (now (words .entry)) c) (operandOf (now (words .entry)) (now (doubles .entry)) (s .a)) (operandOf (now (words .entry)) (now (doubles .entry)) (s .b))) (now (words .entry)) ⌝ }
-    ensures { λ _. ⌜ now (doubles .exit) ≡ doublesWith (s .d) (slctOf ctype (wordOf (now (words .entry)) c) (operandOf (now (words .entry)) (now (doubles .entry)) (s .a)) (operandOf (now (words .entry)) (now (doubles .entry)) (s .b))) (now (doubles .entry)) ⌝ }
+    ensures { λ _. ⌜ now (words .exit) ≡ wordsWith (s .d) (slctValue ctype c s (now (words .entry)) (now (doubles .entry))) (now (words .entry)) ⌝ }
+    ensures { λ _. ⌜ now (doubles .exit) ≡ doublesWith (s .d) (slctValue ctype c s (now (words .entry)) (now (doubles .entry))) (now (doubles .entry)) ⌝ }
 {
     let first = compare::not_below_zero(ctype, get_word(words, c));
     do_choice(first, s, words, doubles);

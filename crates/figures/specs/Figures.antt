@@ -3,13 +3,12 @@
 use Prim.Native.Nat.{ℕ}
 use mathlib.Core.Path.{_≡_, refl}
 use mathlib.Core.Bool.{Bool, true, false}
-use mathlib.Core.List.{List, [], _∷_, _++_, map}
+use mathlib.Core.List.{List, [], _∷_, map}
 use lib.ListN.{replicate}
 use lib.Ieee.{eq, ofBits, ofFields, odd}
 use Rattle.record.specs.Refusals.{isLegal}
 use Rattle.record.specs.Operands.{fullMask, defaultA, defaultB}
 use Rattle.record.specs.declared.Word.{Word}
-use Rattle.record.specs.declared.Pred.{Pred}
 use Rattle.record.specs.declared.VideoType.{VideoType}
 use Rattle.record.specs.declared.VideoType.the-variants.{U32, S32}
 use Rattle.record.specs.declared.DataType
@@ -40,7 +39,7 @@ use Rattle.record.specs.declared.Instruction.the-variants.{Arithmetic, VsetLane
 use Rattle.record.specs.declared.Record.{Record}
 use Rattle.rules.specs.Numbers.{exactOf, holdsZ}
 use Rattle.rules.specs.Execution.{selectedOf, formOf, arithmeticOf, laneHolds, lanesOf, valueOf, comparisonOf}
-use Rattle.rules.specs.Executing.{Files, files, done, Outcome, outcome, combinedOf, testOf, writes, after, sizesFit, predsFit, guardHolds, run}
+use Rattle.rules.specs.Executing.{Files, files, done, outcome, combinedOf, testOf, writes, after, sizesFit, predsFit, guardHolds, run}
 
 pub record Figure : Type 0 where
   pub line : Record

@@ -1,14 +1,11 @@
 -- Document 01, "What execution does": its bullets in their order, as functions of what the registers hold before. Each sentence stands above
 -- what says it; those on files, guards and places are in Executing.antt. Words are untyped, so an f32 is its bits. Subnormal numbers are kept.
-use Prim.Native.Nat.{ℕ, zero, suc, _+_, _-_, _*_, _/_, _%_, _^_}
+use Prim.Native.Nat.{ℕ, zero, suc, _+_, _-_, _/_, _%_}
 use mathlib.Core.Bool.{Bool, true, false, not, _&&_, _||_, cond}
-use mathlib.Core.List.{List, [], _∷_, _++_}
-use lib.ListN.{getD, set}
 use lib.IntN.{ℤ, pos, negℤ, _+ℤ_, _-ℤ_}
 use lib.Signed.{ltZ, leZ}
 use lib.Dec.{ltb, leb, eqb}
-use lib.Ieee.{Float, Format, binary32, binary64, ofBits, isNan, lt, eq, unlike, top, hid}
-use Rattle.record.specs.declared.Word.{Word}
+use lib.Ieee.{Float, binary32, binary64, ofBits, isNan, lt, eq, unlike, top, hid}
 use Rattle.record.specs.declared.VideoType.{VideoType}
 use Rattle.record.specs.declared.LaneWidth.{LaneWidth}
 use Rattle.record.specs.declared.LaneWidth.the-variants.{Half, Byte}
@@ -28,9 +25,7 @@ use Rattle.record.specs.declared.Digits.{Digits}
 use Rattle.record.specs.declared.Lanes.{Lanes}
 use Rattle.record.specs.declared.Cmp6.{Cmp6}
 use Rattle.record.specs.declared.Cmp6.the-variants.{Eq, Ne, Lt, Le, Gt, Ge}
-use Rattle.record.specs.declared.CmpU.{CmpU}
 use Rattle.record.specs.declared.CmpU.the-variants.{Lo, Ls, Hi, Hs}
-use Rattle.record.specs.declared.CmpF.{CmpF}
 use Rattle.record.specs.declared.CmpF.the-variants.{Equ, Neu, Ltu, Leu, Gtu, Geu, Num, Nan}
 use Rattle.record.specs.declared.CmpOp
 use Rattle.record.specs.declared.CmpOp.{CmpOp}
@@ -42,7 +37,7 @@ use Rattle.record.specs.declared.SetType
 use Rattle.record.specs.declared.SetType.{SetType}
 use Rattle.record.specs.declared.SlctType
 use Rattle.record.specs.declared.SlctType.{SlctType}
-use Rattle.rules.specs.Numbers.{wordSize, doubleSize, size, lanes, partAt, joined, exactOf, isSigned, lowOf, minZ, maxZ, bit, holdsZ, eqZ}
+use Rattle.rules.specs.Numbers.{wordSize, doubleSize, size, lanes, partAt, joined, exactOf, isSigned, lowOf, minZ, maxZ, bit, holdsZ}
 
 -- ==== Scalar video
 

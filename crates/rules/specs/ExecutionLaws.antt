@@ -1,5 +1,5 @@
 -- What a technician asks of execution, proved of the definitions: lanes, counts, places. Assumes nothing.
-use Prim.Native.Nat.{ℕ, zero, suc, _+_, _*_, _/_, _%_, _^_, _<_, _≤_}
+use Prim.Native.Nat.{ℕ, zero, suc, _+_, _/_, _%_, _<_}
 use native.Mathlib.Nat.{add-mul-mod-self-left, add-mul-div-left, mod-eq-of-lt, div-eq-of-lt, mod-lt, zero-add}
 use native.Mathlib.Omega.{arith}
 use mathlib.Core.Path.{_≡_, refl, sym, ap, _∙_}
@@ -26,7 +26,7 @@ use Rattle.record.specs.declared.Instruction.the-variants.{Setp}
 use Rattle.record.specs.declared.Record.{Record}
 use Rattle.rules.specs.Numbers.{wordSize, size, lanes, partAt, joined, bit}
 use Rattle.rules.specs.Execution.{replaced, maskAt, laneHolds, laneOf, count, lanesOf, boolOf}
-use Rattle.rules.specs.Executing.{Files, Place, word, double, pred, Write, write, writes, put, putAll, after, predOf, combinedOf, testOf, Answer, done, skipped, refused, guarded, decided, run, outcome, firstRefusal, guardHolds, sizesFit, predsFit}
+use Rattle.rules.specs.Executing.{Files, Place, word, double, pred, Write, write, writes, put, putAll, after, predOf, combinedOf, testOf, done, guarded, decided, run, firstRefusal, guardHolds, sizesFit, predsFit}
 
 -- ==== parts of a word, once over the number n of a part's values
 

@@ -1,13 +1,13 @@
 -- The comparison of floats by their bits alone: which patterns are NaN is `nan-pattern` of FloatOrder.antt; here what the forms of a comparison
 -- give with a NaN and without one, both formats at once. Assumes nothing.
 use Prim.Native.Nat.{ℕ, _%_, _<_, _≤_}
-use mathlib.Core.Path.{_≡_, refl, sym, ap, _∙_}
+use mathlib.Core.Path.{_≡_, refl, sym, ap}
 use mathlib.Core.Bool.{Bool, true, false, not, cond, _&&_, _||_, and-true, and-comm}
 use lib.IntN.{ℤ, pos, negsuc}
 use lib.Signed.{ltZ, leZ}
 use lib.Dec.{ltb, leb}
 use lib.Ieee.{Float, Format, binary32, binary64, isNan, ofBits, lt, eq, top, hid}
-use borrow.Author.Tests.{lt-ltb, le-ltb, le-leb, lt-leb, ltb-true, ltb-false}
+use borrow.Author.Tests.{lt-ltb, le-ltb, le-leb, ltb-true, ltb-false}
 use native.Mathlib.Nat.{le-of-lt}
 use Rattle.record.specs.declared.Cmp6.{Cmp6}
 use Rattle.record.specs.declared.Cmp6.the-variants.{Eq, Ne, Lt, Le, Gt, Ge}

@@ -5,7 +5,7 @@ use mathlib.Core.Bool.{Bool, true, false, not, cond, _&&_, true≢false, and-tru
 use Prim.Native.Nat.{ℕ, zero, suc, _+_, _-_, _*_, _/_, _%_, _^_, _<_, _≤_}
 use native.Mathlib.Nat.{le-of-eq, le-of-lt, lt-of-lt-of-le, eq-or-lt-of-le, zero-add, add-comm, zero-mul, mul-assoc, mul-right-comm, mul-pos, mul-le-mul, mul-le-mul-right, mul-lt-mul-of-pos-right, pow-succ', mul-div-cancel, div-lt-iff-lt-mul, div-eq-of-lt, div-add-mod', mod-lt, mod-eq-of-lt, mul-mod-left, mod-mod-of-dvd, dvd-mul-right}
 use native.Mathlib.Omega.{arith}
-use lib.IntN.{ℤ, pos, negsuc, negℤ}
+use lib.IntN.{ℤ, pos, negℤ}
 use lib.Signed.{ltZ, leZ}
 use lib.Dec.{leb, ltb, eqb, leb·suc-zero, leb·suc-suc, eqb·zero-suc, eqb·suc-zero}
 use lib.Pow.{pow-pos, pow-mono}
@@ -15,7 +15,7 @@ use lib.Ieee.Nearest.{div-mono}
 use lib.Ieee.Exact.{HasValue, odd-sign}
 use lib.Ieee.Bits.{nanBits-is, nanBits-above}
 use Rattle.base.specs.Tests.{leZ-not}
-use borrow.Author.Tests.{lt-ltb, le-ltb, lt-leb, le-leb, eq-eqb, ne-eqb, ltb-true, ltb-false}
+use borrow.Author.Tests.{lt-ltb, le-ltb, eq-eqb, ne-eqb, ltb-true, ltb-false}
 
 -- a pattern by sign and magnitude: the sign is the highest bit, the magnitude all bits below it. Both zeros are 0
 abbrev pub signMagnitude : Format → ℕ → ℤ

@@ -1,7 +1,7 @@
 -- The exact numbers and the parts of a word that document 01's "What execution does" speaks of.
 use Prim.Native.Nat.{ℕ, zero, suc, _+_, _-_, _*_, _/_, _%_, _^_}
 use mathlib.Core.Bool.{Bool, true, false, not, _&&_, cond}
-use lib.IntN.{ℤ, pos, negsuc, subℕ, negℤ, _+ℤ_, _-ℤ_}
+use lib.IntN.{ℤ, pos, negsuc, subℕ}
 use lib.Signed.{ltZ, leZ}
 use lib.Dec.{leb}
 use Rattle.record.specs.declared.VideoType.{VideoType}

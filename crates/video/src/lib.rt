@@ -13,13 +13,12 @@ use record::Selected;
 use record::Selector;
 use record::VideoType;
 ghost use mathlib.Core.Path.{_≡_};
-ghost use mathlib.Core.Bool.{cond, false, _&&_};
+ghost use mathlib.Core.Bool.{cond, false};
 ghost use Prim.Native.Nat.{_+_, _%_, _^_, _<_, _≤_};
-ghost use lib.ListN.{getD};
 ghost use lib.IntN.{_+ℤ_, _-ℤ_};
 ghost use Rattle.base.specs.Lists.{tab};
-ghost use Rattle.rules.specs.Numbers.{wordSize, size, lanes, partAt, joined, exactOf, isSigned, lowOf, minZ, maxZ, bit, holdsZ};
-ghost use Rattle.rules.specs.Execution.{selectorWidth, selectorPart, selectedOf, arithZ, lowestZ, highestZ, formSize, clampedOf, op2Z, replaced, formOf, arithmeticOf, vsetOf, digitAt, maskAt, numbered, laneNumber, laneHolds, laneOf, count, lanesOf};
+ghost use Rattle.rules.specs.Numbers.{wordSize, size, lanes, partAt, exactOf, isSigned, lowOf, minZ, maxZ, bit, holdsZ};
+ghost use Rattle.rules.specs.Execution.{selectorWidth, selectorPart, selectedOf, arithZ, lowestZ, highestZ, formSize, clampedOf, op2Z, replaced, formOf, arithmeticOf, vsetOf, digitAt, numbered, laneHolds, lanesOf};
 ghost use Rattle.video.specs.Exact.{bias, exactly, Near, Wide, rejoinedOf, mergedOf, countedOf};
 
 // What every exact number is moved up by: 2^36.

@@ -1,7 +1,6 @@
 use Rattle.compare.proofs.Laws.{pattern-plain, pattern-nan, zero-over-zero}
 use lib.Ieee.{binary32}
 use mathlib.Core.Path.{_∙_, sym}
-use borrow.Author.Tests.{lt-ltb}
 use borrow.Author.Needs.{needs}
 use Rattle.compare.proofs.single.Statement.{statement}
 use Rattle.compare.proofs.single.Tie as tie

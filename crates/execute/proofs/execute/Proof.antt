@@ -10,7 +10,6 @@ use Rattle.execute.specs.declared.Executed.{Executed}
 use Rattle.execute.proofs.execute.Kinds as kinds
 use Rattle.base.specs.Tests.{failed, passed}
 use Rattle.execute.proofs.Laws.{ends-refused, ends-skipped, ends-done}
-use borrow.Author.Tests.{eq-eqb, ne-eqb}
 use borrow.Author.Needs.{needs}
 use Rattle.execute.proofs.execute.Statement.{statement}
 use Rattle.execute.proofs.execute.Tie as tie

@@ -1,6 +1,5 @@
 use Rattle.base.specs.Lists.{getD-past}
 use denote.Ref.{now}
-use borrow.Author.Tests.{le-ltb}
 use borrow.Author.Needs.{needs}
 use Rattle.execute.proofs.get_double.Statement.{statement}
 use Rattle.execute.proofs.get_double.Tie as tie

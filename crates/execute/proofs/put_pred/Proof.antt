@@ -1,6 +1,5 @@
 use Rattle.base.specs.Lists.{set-past}
 use denote.Ref.{now}
-use borrow.Author.Tests.{le-ltb}
 use borrow.Author.Needs.{needs}
 use Rattle.execute.proofs.put_pred.Statement.{statement}
 use Rattle.execute.proofs.put_pred.Tie as tie

@@ -1,4 +1,4 @@
-use Prim.Native.Nat.{_≤_, _-_}
+use Prim.Native.Nat.{_-_}
 use borrow.Author.Needs.{needs}
 use Rattle.tables.proofs.show_rows.Statement.{statement}
 use Rattle.tables.proofs.show_rows.Tie as tie

@@ -1,6 +1,5 @@
 use native.Mathlib.Omega.{arith}
 use Rattle.video.proofs.Laws.{two-counted, four-counted}
-use Rattle.video.specs.Exact.{countedOf}
 use borrow.Author.Needs.{needs}
 use Rattle.video.proofs.counted.Statement.{statement}
 use Rattle.video.proofs.counted.Tie as tie

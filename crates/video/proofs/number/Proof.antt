@@ -1,6 +1,4 @@
 use Rattle.video.proofs.Laws.{exact-neg, exact-pos, exact-plain}
-use native.Mathlib.Omega.{arith}
-use borrow.Author.Tests.{le-leb, lt-leb}
 use borrow.Author.Needs.{needs}
 use Rattle.video.proofs.number.Statement.{statement}
 use Rattle.video.proofs.number.Tie as tie

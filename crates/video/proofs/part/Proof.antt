@@ -1,5 +1,4 @@
-use Rattle.video.proofs.Laws.{part-is, part-past, past-at}
-use borrow.Author.Tests.{eq-eqb, ne-eqb}
+use Rattle.video.proofs.Laws.{part-is, past-at}
 use borrow.Author.Needs.{needs}
 use Rattle.video.proofs.part.Statement.{statement}
 use Rattle.video.proofs.part.Tie as tie
