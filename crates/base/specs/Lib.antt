@@ -2,3 +2,4 @@ pub mod Promise
 pub mod Lists
 pub mod Tests
 pub mod Moved
+pub mod Text

@@ -4,3 +4,6 @@ pub mod Executing
 pub mod ExecutionLaws
 pub mod FloatOrder
 pub mod FloatLaws
+pub mod Shape
+pub mod Names
+pub mod StandardLine

@@ -1,0 +1,114 @@
+-- Document 01, "The standard line": guard, if any, and one space; head; one space; operands joined by comma and one space; `;`.
+use Prim.Native.Nat.{ℕ}
+use mathlib.Core.Path.{_≡_, refl}
+use mathlib.Core.Bool.{Bool, true, false, Bool·beq, _&&_, cond}
+use mathlib.Core.List.{List, [], _∷_, _++_}
+use lib.Dec.{eqb}
+use Rattle.base.specs.Text.{bytes}
+use Rattle.record.specs.Operands.{fullMask, defaultA, defaultB}
+use Rattle.record.specs.declared.Word.{Word}
+use Rattle.record.specs.declared.Pred.{Pred}
+use Rattle.record.specs.declared.Condition.{Condition}
+use Rattle.record.specs.declared.Guard.{Guard}
+use Rattle.record.specs.declared.Guard.the-variants.{Always, When}
+use Rattle.record.specs.declared.Combination.{Combination}
+use Rattle.record.specs.declared.Combination.the-variants.{Alone, With}
+use Rattle.record.specs.declared.Selected.{Selected}
+use Rattle.record.specs.declared.Selected.the-variants.{Whole, Part}
+use Rattle.record.specs.declared.Form.{Form}
+use Rattle.record.specs.declared.Form.the-variants.{Plain, Merge, Combine}
+use Rattle.record.specs.declared.LaneWidth.{LaneWidth}
+use Rattle.record.specs.declared.Mask.{Mask}
+use Rattle.record.specs.declared.Digits.{Digits}
+use Rattle.record.specs.declared.Destination.{Destination}
+use Rattle.record.specs.declared.Destination.the-variants.{One, Pair, First, Second}
+use Rattle.record.specs.declared.Instruction.{Instruction}
+use Rattle.record.specs.declared.Instruction.the-variants.{Arithmetic, Vset, VsetLanes, Set, Setp, Selp, Slct}
+use Rattle.record.specs.declared.Record.{Record}
+use Rattle.rules.specs.Executing.{Place, word, pred, operandPlace, formD}
+use Rattle.rules.specs.Shape.{Name, headText, Spot, at, nothing, OperandTree, inverted, pair, bare, part, operandText, guardText}
+use Rattle.rules.specs.Names.{headNames, selectorName, maskName, digitsName}
+
+-- ==== the operands of a record, in their order
+
+abbrev pub r : Word → Place
+r w = word (w .0)
+
+abbrev pub p : Pred → Place
+p q = pred (q .0)
+
+abbrev pub selectedTree : Selected → OperandTree
+selectedTree (Whole w) = bare (r w)
+selectedTree (Part w sel) = part (r w) (selectorName sel)
+
+abbrev pub formTree : Form → OperandTree
+formTree (Plain d) = bare (r d)
+formTree (Merge d sel c) = part (r d) (selectorName sel)
+formTree (Combine op d c) = bare (r d)
+
+abbrev pub formLast : Form → List OperandTree
+formLast (Plain d) = []
+formLast (Merge d sel c) = bare (r c) ∷ []
+formLast (Combine op d c) = bare (r c) ∷ []
+
+-- Default masks and selectors are left out
+abbrev pub sameMask : Mask → Mask → Bool
+sameMask m n = Bool·beq (m .lane0) (n .lane0) && Bool·beq (m .lane1) (n .lane1) && Bool·beq (m .lane2) (n .lane2) && Bool·beq (m .lane3) (n .lane3)
+
+abbrev pub sameDigits : Digits → Digits → Bool
+sameDigits s t = eqb (s .lane0) (t .lane0) && eqb (s .lane1) (t .lane1) && eqb (s .lane2) (t .lane2) && eqb (s .lane3) (t .lane3)
+
+abbrev pub maskTree : LaneWidth → Word → Mask → OperandTree
+maskTree w d m = cond (sameMask m (fullMask w)) (bare (r d)) (part (r d) (maskName w m))
+
+abbrev pub digitsTree : LaneWidth → Digits → Word → Digits → OperandTree
+digitsTree w default a s = cond (sameDigits s default) (bare (r a)) (part (r a) (digitsName w s))
+
+-- a predicate with optional `!`
+abbrev pub conditionTree : Condition → OperandTree
+conditionTree c = cond (c .inverted) (inverted (p (c .pred))) (bare (p (c .pred)))
+
+abbrev pub combinationLast : Combination → List OperandTree
+combinationLast Alone = []
+combinationLast (With op c) = conditionTree c ∷ []
+
+-- d is one predicate, or a pair of which one may be `_`
+abbrev pub destinationTree : Destination → OperandTree
+destinationTree (One a) = bare (p a)
+destinationTree (Pair a b) = pair (at (p a)) (at (p b))
+destinationTree (First a) = pair (at (p a)) nothing
+destinationTree (Second b) = pair nothing (at (p b))
+
+abbrev pub operandTrees : Instruction → List OperandTree
+operandTrees (Arithmetic op dtype sat s) = formTree (s .form) ∷ selectedTree (s .a) ∷ selectedTree (s .b) ∷ formLast (s .form)
+operandTrees (Vset cmp s) = formTree (s .form) ∷ selectedTree (s .a) ∷ selectedTree (s .b) ∷ formLast (s .form)
+operandTrees (VsetLanes cmp l) =
+    maskTree (l .width) (l .d) (l .mask)
+    ∷ digitsTree (l .width) (defaultA (l .width)) (l .a) (l .asel)
+    ∷ digitsTree (l .width) (defaultB (l .width)) (l .b) (l .bsel)
+    ∷ bare (r (l .c))
+    ∷ []
+operandTrees (Set dtype d s) = bare (r d) ∷ bare (operandPlace (s .a)) ∷ bare (operandPlace (s .b)) ∷ combinationLast (s .combination)
+operandTrees (Setp d s) = destinationTree d ∷ bare (operandPlace (s .a)) ∷ bare (operandPlace (s .b)) ∷ combinationLast (s .combination)
+operandTrees (Selp s c) = bare (operandPlace (s .d)) ∷ bare (operandPlace (s .a)) ∷ bare (operandPlace (s .b)) ∷ bare (p c) ∷ []
+operandTrees (Slct ctype s c) = bare (operandPlace (s .d)) ∷ bare (operandPlace (s .a)) ∷ bare (operandPlace (s .b)) ∷ bare (r c) ∷ []
+
+-- ==== the line
+
+-- Guard, if any, and one space
+abbrev pub guardPart : Guard → List ℕ
+guardPart Always = []
+guardPart (When c) = guardText (c .inverted) (p (c .pred)) ++ bytes " "
+
+-- operands joined by comma and one space
+abbrev pub further : List OperandTree → List ℕ
+further [] = []
+further (o ∷ os) = bytes ", " ++ operandText o ++ further os
+
+abbrev pub operandsText : List OperandTree → List ℕ
+operandsText [] = []
+operandsText (o ∷ os) = operandText o ++ further os
+
+unfoldable pub standard : Record → List ℕ
+standard l =
+    guardPart (l .guard) ++ headText (headNames (l .instruction)) ++ bytes " " ++ operandsText (operandTrees (l .instruction)) ++ bytes ";"
