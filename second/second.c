@@ -1,4 +1,4 @@
-/* second.c - the PTX line bench, written from documents/01-scope.md alone.
+/* second.c - the PTX line bench, written from documents/01-scope.md and the sources 000 to 004.
  *
  *   second            the listing program described at the end of document 01
  *   second --probe    one line in, one answer out; see probe() below
