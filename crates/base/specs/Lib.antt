@@ -3,3 +3,5 @@ pub mod Lists
 pub mod Tests
 pub mod Moved
 pub mod Text
+pub mod Bytes
+pub mod Pack

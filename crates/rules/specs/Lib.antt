@@ -7,3 +7,4 @@ pub mod FloatLaws
 pub mod Shape
 pub mod Names
 pub mod StandardLine
+pub mod Grammar

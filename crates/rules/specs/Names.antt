@@ -1,5 +1,5 @@
 -- Document 01, "Modifiers, in this order only" and the names in "Operands": how each choice of a record is spelled.
-use Prim.Native.Nat.{ℕ, _+_}
+use Prim.Native.Nat.{ℕ}
 use mathlib.Core.Bool.{Bool, true, false, cond}
 use mathlib.Core.List.{List, [], _∷_, _++_}
 use Rattle.base.specs.Text.{bytes}
@@ -37,7 +37,7 @@ use Rattle.record.specs.declared.Mask.{Mask}
 use Rattle.record.specs.declared.Digits.{Digits}
 use Rattle.record.specs.declared.Instruction.{Instruction}
 use Rattle.record.specs.declared.Instruction.the-variants.{Arithmetic, Vset, VsetLanes, Set, Setp, Selp, Slct}
-use Rattle.rules.specs.Shape.{Name}
+use Rattle.rules.specs.Shape.{Name, digit}
 
 -- ==== modifiers
 
@@ -168,5 +168,5 @@ maskName w m =
 
 -- Selectors on a and b: `h` and two digits 0-3; `b` and four digits 0-7. The leftmost digit names the highest lane
 abbrev pub digitsName : LaneWidth → Digits → Name
-digitsName Half s = laneLetter Half ++ (s .lane1 + 48) ∷ (s .lane0 + 48) ∷ []
-digitsName Byte s = laneLetter Byte ++ (s .lane3 + 48) ∷ (s .lane2 + 48) ∷ (s .lane1 + 48) ∷ (s .lane0 + 48) ∷ []
+digitsName Half s = laneLetter Half ++ digit (s .lane1) ∷ digit (s .lane0) ∷ []
+digitsName Byte s = laneLetter Byte ++ digit (s .lane3) ∷ digit (s .lane2) ∷ digit (s .lane1) ∷ digit (s .lane0) ∷ []

@@ -1,0 +1,33 @@
+-- The classes of bytes that document 01's shape of a line speaks of, and lists made of one class. Assumes nothing.
+use Prim.Native.Nat.{ℕ, _<_}
+use mathlib.Core.Path.{_≡_}
+use mathlib.Core.Bool.{Bool, true, _&&_, _||_}
+use mathlib.Core.List.{List, [], _∷_}
+use lib.Dec.{leb, eqb}
+use lib.ListN.{length}
+
+-- Blank means space or tab
+abbrev pub isBlank : ℕ → Bool
+isBlank b = eqb b 32 || eqb b 9
+
+-- 0-9
+abbrev pub isDigit : ℕ → Bool
+isDigit b = leb 48 b && leb b 57
+
+-- a-z
+abbrev pub isLetter : ℕ → Bool
+isLetter b = leb 97 b && leb b 122
+
+-- one of a-z and 0-9
+abbrev pub isNameByte : ℕ → Bool
+isNameByte b = isLetter b || isDigit b
+
+-- every byte of the list is of the class
+pub data All (p : ℕ → Bool) : List ℕ → Type 0 where
+  none : All p []
+  more : {b : ℕ} {w : List ℕ} → p b ≡ true → All p w → All p (b ∷ w)
+
+-- and there is at least one
+pub record Some (p : ℕ → Bool) (w : List ℕ) : Type 0 where
+  pub all : All p w
+  pub some : 0 < length w
