@@ -1,0 +1,74 @@
+-- What the reader keeps of a line's tree. No one has to believe it: the laws of the rooms above join it to the tree.
+use Prim.Native.Nat.{ℕ}
+use mathlib.Core.List.{List, [], _∷_, _++_, map}
+use lib.ListN.{length, take, replicate}
+use Rattle.base.specs.Pack.{codeOf}
+use Rattle.rules.specs.Executing as executing
+use Rattle.rules.specs.Shape.{Name, OperandTree, inverted, pair, bare, part}
+use Rattle.rules.specs.Shape as shape
+use Rattle.rules.specs.Grammar.{LineTree, GuardTree, unguarded, guarded, Divided}
+use Rattle.tree.specs.declared.Place.{Place}
+use Rattle.tree.specs.declared.Place.the-variants.{Word, Double, Pred}
+use Rattle.tree.specs.declared.Spot.{Spot}
+use Rattle.tree.specs.declared.Spot.the-variants.{At, Nothing}
+use Rattle.tree.specs.declared.Tree.{Tree}
+use Rattle.tree.specs.declared.Tree.the-variants.{Inverted, Pair, Bare, Part}
+use Rattle.tree.specs.declared.Slot.{Slot}
+use Rattle.tree.specs.declared.Operands.{Operands}
+use Rattle.tree.specs.declared.Head.{Head}
+use Rattle.tree.specs.declared.Guarding.{Guarding}
+use Rattle.tree.specs.declared.Guarding.the-variants.{Unguarded, Guarded}
+use Rattle.tree.specs.declared.Parts.{Parts}
+
+abbrev pub seenPlace : executing.Place → Place
+seenPlace (executing.word n) = Word (record { 0 = n })
+seenPlace (executing.double n) = Double (record { 0 = n })
+seenPlace (executing.pred n) = Pred (record { 0 = n })
+
+abbrev pub seenSpot : shape.Spot → Spot
+seenSpot (shape.at p) = At (seenPlace p)
+seenSpot shape.nothing = Nothing
+
+abbrev pub seenOperand : OperandTree → Tree
+seenOperand (inverted p) = Inverted (seenPlace p)
+seenOperand (pair p q) = Pair (seenSpot p) (seenSpot q)
+seenOperand (bare p) = Bare (seenPlace p)
+seenOperand (part p n) = Part (seenPlace p) (codeOf n)
+
+-- the first k, and what stands past the end
+abbrev pub first {ℓ} : {A : Type ℓ} → ℕ → A → List A → List A
+first k past l = take k (l ++ replicate k past)
+
+abbrev pub namesKept : ℕ
+namesKept = 8
+
+-- past the end stands 0, which is no name
+unfoldable pub seenHead : List Name → Head
+seenHead ns = record { n = length ns; at = first namesKept 0 (map codeOf ns) }
+
+abbrev pub operandsKept : ℕ
+operandsKept = 5
+
+abbrev pub slot : OperandTree → Slot
+slot o = record { tree = seenOperand o }
+
+-- past the end stands `_|_`, which no opcode takes
+abbrev pub spare : Slot
+spare = record { tree = Pair Nothing Nothing }
+
+unfoldable pub seenOperands : List OperandTree → Operands
+seenOperands os = record { n = length os; at = first operandsKept spare (map slot os) }
+
+abbrev pub seenGuard : GuardTree → Guarding
+seenGuard unguarded = Unguarded
+seenGuard (guarded negated p blanks) = Guarded negated (seenPlace p)
+
+abbrev pub operandsOf : LineTree → List OperandTree
+operandsOf t = t .first ∷ map (λ (d : Divided). d .operand) (t .others)
+
+abbrev pub seen : LineTree → Parts
+seen t = record {
+  guard = seenGuard (t .guard);
+  head = seenHead (t .opcode ∷ t .modifiers);
+  operands = seenOperands (operandsOf t);
+}
