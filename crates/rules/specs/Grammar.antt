@@ -2,7 +2,7 @@
 use Prim.Native.Nat.{ℕ, _<_}
 use mathlib.Core.Path.{_≡_}
 use mathlib.Core.Bool.{Bool}
-use mathlib.Core.List.{List, [], _∷_, _++_}
+use mathlib.Core.List.{List, [], _∷_, _++_, map}
 use Rattle.base.specs.Bytes.{isBlank, isNameByte, All, Some}
 use Rattle.base.specs.Text.{bytes}
 use Rattle.rules.specs.Executing.{Place, word, double, pred}
@@ -52,6 +52,13 @@ lineText t =
     ++ bytes ";"
     ++ t .behind
 
+-- the names of the head and the operands, apart from blanks
+abbrev pub namesOf : LineTree → List Name
+namesOf t = t .opcode ∷ t .modifiers
+
+abbrev pub operandsOf : LineTree → List OperandTree
+operandsOf t = t .first ∷ map (λ (d : Divided). d .operand) (t .others)
+
 -- ==== what makes a tree good
 
 -- a decimal number of 1 to 3 digits
@@ -84,6 +91,10 @@ GoodOperand (part p n) = GoodPlace p × GoodName n
 abbrev pub GoodGuard : GuardTree → Type 0
 GoodGuard unguarded = Unit {0}
 GoodGuard (guarded negated p blanks) = GoodPlace p × Some isBlank blanks
+
+pub data GoodOperands : List OperandTree → Type 0 where
+  none : GoodOperands []
+  more : {o : OperandTree} {os : List OperandTree} → GoodOperand o → GoodOperands os → GoodOperands (o ∷ os)
 
 pub record GoodDivided (d : Divided) : Type 0 where
   pub before : All isBlank (d .before)

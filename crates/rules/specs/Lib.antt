@@ -8,3 +8,4 @@ pub mod Shape
 pub mod Names
 pub mod StandardLine
 pub mod Grammar
+pub mod Reading

@@ -6,7 +6,7 @@ use Rattle.base.specs.Pack.{codeOf}
 use Rattle.rules.specs.Executing as executing
 use Rattle.rules.specs.Shape.{Name, OperandTree, inverted, pair, bare, part}
 use Rattle.rules.specs.Shape as shape
-use Rattle.rules.specs.Grammar.{LineTree, GuardTree, unguarded, guarded, Divided}
+use Rattle.rules.specs.Grammar.{LineTree, GuardTree, unguarded, guarded, namesOf, operandsOf}
 use Rattle.tree.specs.declared.Place.{Place}
 use Rattle.tree.specs.declared.Place.the-variants.{Word, Double, Pred}
 use Rattle.tree.specs.declared.Spot.{Spot}
@@ -63,12 +63,9 @@ abbrev pub seenGuard : GuardTree → Guarding
 seenGuard unguarded = Unguarded
 seenGuard (guarded negated p blanks) = Guarded negated (seenPlace p)
 
-abbrev pub operandsOf : LineTree → List OperandTree
-operandsOf t = t .first ∷ map (λ (d : Divided). d .operand) (t .others)
-
 abbrev pub seen : LineTree → Parts
 seen t = record {
   guard = seenGuard (t .guard);
-  head = seenHead (t .opcode ∷ t .modifiers);
+  head = seenHead (namesOf t);
   operands = seenOperands (operandsOf t);
 }
