@@ -7,5 +7,7 @@ pub mod FloatLaws
 pub mod Shape
 pub mod Names
 pub mod StandardLine
+pub mod Writing
+pub mod LineLengths
 pub mod Grammar
 pub mod Reading

@@ -17,7 +17,11 @@ use Rattle.record.specs.declared.Selected.{Selected}
 use Rattle.record.specs.declared.Selected.the-variants.{Whole, Part}
 use Rattle.record.specs.declared.Form.{Form}
 use Rattle.record.specs.declared.Form.the-variants.{Plain, Merge, Combine}
+use Rattle.record.specs.declared.Scalar.{Scalar}
 use Rattle.record.specs.declared.LaneWidth.{LaneWidth}
+use Rattle.record.specs.declared.Lanes.{Lanes}
+use Rattle.record.specs.declared.Comparison.{Comparison}
+use Rattle.record.specs.declared.Choice.{Choice}
 use Rattle.record.specs.declared.Mask.{Mask}
 use Rattle.record.specs.declared.Digits.{Digits}
 use Rattle.record.specs.declared.Destination.{Destination}
@@ -79,19 +83,33 @@ destinationTree (Pair a b) = pair (at (p a)) (at (p b))
 destinationTree (First a) = pair (at (p a)) nothing
 destinationTree (Second b) = pair nothing (at (p b))
 
-abbrev pub operandTrees : Instruction → List OperandTree
-operandTrees (Arithmetic op dtype sat s) = formTree (s .form) ∷ selectedTree (s .a) ∷ selectedTree (s .b) ∷ formLast (s .form)
-operandTrees (Vset cmp s) = formTree (s .form) ∷ selectedTree (s .a) ∷ selectedTree (s .b) ∷ formLast (s .form)
-operandTrees (VsetLanes cmp l) =
+-- d, a, b or d, a, b, c
+abbrev pub scalarTrees : Scalar → List OperandTree
+scalarTrees s = formTree (s .form) ∷ selectedTree (s .a) ∷ selectedTree (s .b) ∷ formLast (s .form)
+
+abbrev pub lanesTrees : Lanes → List OperandTree
+lanesTrees l =
     maskTree (l .width) (l .d) (l .mask)
     ∷ digitsTree (l .width) (defaultA (l .width)) (l .a) (l .asel)
     ∷ digitsTree (l .width) (defaultB (l .width)) (l .b) (l .bsel)
     ∷ bare (r (l .c))
     ∷ []
-operandTrees (Set dtype d s) = bare (r d) ∷ bare (operandPlace (s .a)) ∷ bare (operandPlace (s .b)) ∷ combinationLast (s .combination)
-operandTrees (Setp d s) = destinationTree d ∷ bare (operandPlace (s .a)) ∷ bare (operandPlace (s .b)) ∷ combinationLast (s .combination)
-operandTrees (Selp s c) = bare (operandPlace (s .d)) ∷ bare (operandPlace (s .a)) ∷ bare (operandPlace (s .b)) ∷ bare (p c) ∷ []
-operandTrees (Slct ctype s c) = bare (operandPlace (s .d)) ∷ bare (operandPlace (s .a)) ∷ bare (operandPlace (s .b)) ∷ bare (r c) ∷ []
+
+-- a, b and, with BoolOp, c
+abbrev pub sourceTrees : Comparison → List OperandTree
+sourceTrees s = bare (operandPlace (s .a)) ∷ bare (operandPlace (s .b)) ∷ combinationLast (s .combination)
+
+abbrev pub choiceTrees : Choice → Place → List OperandTree
+choiceTrees s c = bare (operandPlace (s .d)) ∷ bare (operandPlace (s .a)) ∷ bare (operandPlace (s .b)) ∷ bare c ∷ []
+
+abbrev pub operandTrees : Instruction → List OperandTree
+operandTrees (Arithmetic op dtype sat s) = scalarTrees s
+operandTrees (Vset cmp s) = scalarTrees s
+operandTrees (VsetLanes cmp l) = lanesTrees l
+operandTrees (Set dtype d s) = bare (r d) ∷ sourceTrees s
+operandTrees (Setp d s) = destinationTree d ∷ sourceTrees s
+operandTrees (Selp s c) = choiceTrees s (p c)
+operandTrees (Slct ctype s c) = choiceTrees s (r c)
 
 -- ==== the line
 
