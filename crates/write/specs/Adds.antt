@@ -1,5 +1,6 @@
 -- The text of a line under construction, and what it means that a piece was added. Assumes nothing.
 use mathlib.Core.Path.{_≡_, refl, sym, ap, _∙_}
+use mathlib.Core.Bool.{Bool, true, false, cond}
 use Prim.Native.Nat.{ℕ, zero, suc, _+_, _≤_, _<_}
 use native.Mathlib.Numerals.{add-one}
 use native.Mathlib.Omega.{arith}
@@ -7,10 +8,11 @@ use mathlib.Core.List.{List, [], _∷_, _++_, append-assoc, append-nil}
 use lib.ListN.{length, take, set, length-append, length-take}
 use lib.Seq.{take-suc-set, take-all, take-append-le}
 use Rattle.base.specs.Text.{bytes}
+use Rattle.record.specs.declared.Condition.{Condition}
 use Rattle.record.specs.declared.Choice.{Choice}
 use Rattle.rules.specs.Executing.{Place, operandPlace}
-use Rattle.rules.specs.Shape.{Name, dotted, registerText}
-use Rattle.rules.specs.StandardLine.{choiceTrees, operandsText}
+use Rattle.rules.specs.Shape.{Name, dotted, registerText, inverted, bare, operandText, guardText}
+use Rattle.rules.specs.StandardLine.{p, conditionTree, choiceTrees, operandsText}
 use Rattle.write.specs.declared.Line.{Line}
 
 -- as many bytes as a line may have
@@ -47,6 +49,14 @@ dotted-both {x} {y} ms ns a = record { text = rw (dotted-append ms ns) (a .text)
     dotted-append : (ms ns : List Name) → dotted (ms ++ ns) ≡ dotted ms ++ dotted ns
     dotted-append [] ns = refl
     dotted-append (m ∷ ms) ns = rw (dotted-append ms ns) (sym (append-assoc (46 ∷ m) (dotted ms) (dotted ns)))
+
+-- a guard is `@` and a condition
+pub guard-text : {x y : List ℕ} (c : Condition) → Adds x (bytes "@" ++ operandText (conditionTree c)) y → Adds x (guardText (c .inverted) (p (c .pred))) y
+guard-text {x} {y} c a = record { text = a .text ∙ ap (λ (l : List ℕ). take room (x ++ l)) (same (c .inverted)) }
+  where
+    same : (t : Bool) → bytes "@" ++ operandText (cond t (inverted (p (c .pred))) (bare (p (c .pred)))) ≡ guardText t (p (c .pred))
+    same true = refl
+    same false = refl
 
 -- d, a, b and a comma: what selp and slct share
 abbrev pub choiceText : Choice → List ℕ

@@ -1,5 +1,6 @@
 // Writes a record as its standard line: the line is built by value, piece by piece, and copied out once.
 use record::Arith;
+use record::BoolOp;
 use record::Choice;
 use record::Cmp6;
 use record::CmpF;
@@ -19,7 +20,6 @@ use record::LaneWidth;
 use record::Lanes;
 use record::Mask;
 use record::Op2;
-use record::BoolOp;
 use record::Operand;
 use record::Pred;
 use record::Record;
@@ -314,13 +314,7 @@ fn put_arith(l: Line, op: Arith) -> Line
     match op {
         Arith::Vadd => put4(l, b'v', b'a', b'd', b'd'),
         Arith::Vsub => put4(l, b'v', b's', b'u', b'b'),
-        Arith::Vabsdiff => put4(
-            put4(l, b'v', b'a', b'b', b's'),
-            b'd',
-            b'i',
-            b'f',
-            b'f',
-        ),
+        Arith::Vabsdiff => put4(put4(l, b'v', b'a', b'b', b's'), b'd', b'i', b'f', b'f'),
         Arith::Vmin => put4(l, b'v', b'm', b'i', b'n'),
         Arith::Vmax => put4(l, b'v', b'm', b'a', b'x'),
     }
@@ -630,20 +624,8 @@ fn put_lanes(l: Line, s: Lanes) -> Line
 {
     let width = s.width;
     let l1 = put_mask(l, width, s.d, s.mask);
-    let l2 = put_digits(
-        put_comma(l1),
-        width,
-        default_a(width),
-        s.a,
-        s.asel,
-    );
-    let l3 = put_digits(
-        put_comma(l2),
-        width,
-        default_b(width),
-        s.b,
-        s.bsel,
-    );
+    let l2 = put_digits(put_comma(l1), width, default_a(width), s.a, s.asel);
+    let l3 = put_digits(put_comma(l2), width, default_b(width), s.b, s.bsel);
     put_word(put_comma(l3), s.c)
 }
 
@@ -652,7 +634,11 @@ fn put_lanes(l: Line, s: Lanes) -> Line
 fn put_condition(l: Line, c: Condition) -> Line
     ensures { λ m. ⌜ Adds (textOf l) (operandText (conditionTree c)) (textOf m) ⌝ }
 {
-    if c.inverted { put_pred(push(l, b'!'), c.pred) } else { put_pred(l, c.pred) }
+    if c.inverted {
+        put_pred(push(l, b'!'), c.pred)
+    } else {
+        put_pred(l, c.pred)
+    }
 }
 
 fn put_combination_last(l: Line, c: Combination) -> Line
@@ -681,7 +667,7 @@ fn put_destination(l: Line, d: Destination) -> Line
     match d {
         Destination::One(a) => put_pred(l, a),
         Destination::Pair(a, b) => put_pred(push(put_pred(l, a), b'|'), b),
-        Destination::First(a) => put2(put_pred(l, a), b'|', b'_'),
+        Destination::First(a) => push(push(put_pred(l, a), b'|'), b'_'),
         Destination::Second(b) => put_pred(put2(l, b'_', b'|'), b),
     }
 }

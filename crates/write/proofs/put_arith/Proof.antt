@@ -1,73 +1,55 @@
+use Rattle.write.specs.Adds.{_then_}
 use borrow.Author.Needs.{needs}
 use Rattle.write.proofs.put_arith.Statement.{statement}
 use Rattle.write.proofs.put_arith.Tie as tie
-use Rattle.write.proofs.put_arith.Reads as reads
-use Rattle.write.proofs.put_arith.Lts as lts
-use Rattle.write.proofs.put4.Reads as put4-reads
 
--- src/lib.rt:315:24
 enum-told : tie.Need-enum-told
 enum-told c = search needs
 
--- src/lib.rt:315:24
 put4-requires : tie.Need-put4-requires
 put4-requires c κs = search needs
 
--- src/lib.rt:316:24
 enum-told-2 : tie.Need-enum-told-2
 enum-told-2 c = search needs
 
--- src/lib.rt:316:24
 put4-requires-2 : tie.Need-put4-requires-2
 put4-requires-2 c κs = search needs
 
--- src/lib.rt:318:13
 enum-told-3 : tie.Need-enum-told-3
 enum-told-3 c = search needs
 
--- src/lib.rt:318:13
 put4-requires-3 : tie.Need-put4-requires-3
 put4-requires-3 c κs = search needs
 
--- src/lib.rt:317:28
 put4-requires-4 : tie.Need-put4-requires-4
 put4-requires-4 c κs = search needs
 
--- src/lib.rt:324:24
 enum-told-4 : tie.Need-enum-told-4
 enum-told-4 c = search needs
 
--- src/lib.rt:324:24
 put4-requires-5 : tie.Need-put4-requires-5
 put4-requires-5 c κs = search needs
 
--- src/lib.rt:325:24
 enum-told-5 : tie.Need-enum-told-5
 enum-told-5 c = search needs
 
--- src/lib.rt:325:24
 put4-requires-6 : tie.Need-put4-requires-6
 put4-requires-6 c κs = search needs
 
--- src/lib.rt:311:1
 returns : tie.Need-returns
-returns c = ?
+returns c = rw (c .before .enum-told .given .1) (c .put4 .ensures)
 
--- src/lib.rt:311:1
 returns-2 : tie.Need-returns-2
-returns-2 c = ?
+returns-2 c = rw (c .before .enum-told2 .given .1) (c .put42 .ensures)
 
--- src/lib.rt:311:1
 returns-3 : tie.Need-returns-3
-returns-3 c = ?
+returns-3 c = rw (c .before .before .enum-told3 .given .1) (c .before .put43 .ensures then c .put44 .ensures)
 
--- src/lib.rt:311:1
 returns-4 : tie.Need-returns-4
-returns-4 c = ?
+returns-4 c = rw (c .before .enum-told4 .given .1) (c .put45 .ensures)
 
--- src/lib.rt:311:1
 returns-5 : tie.Need-returns-5
-returns-5 c = ?
+returns-5 c = rw (c .before .enum-told5 .given .1) (c .put46 .ensures)
 
 pub put-arith-spec : {M : Type 1} → statement M
 put-arith-spec =

@@ -1,30 +1,22 @@
+use Rattle.write.specs.Adds.{_then_}
 use borrow.Author.Needs.{needs}
 use Rattle.write.proofs.put_condition.Statement.{statement}
 use Rattle.write.proofs.put_condition.Tie as tie
-use Rattle.write.proofs.put_condition.Reads as reads
-use Rattle.write.proofs.put_condition.Lts as lts
-use Rattle.write.proofs.push.Reads as push-reads
-use Rattle.write.proofs.put_pred.Reads as put-pred-reads
 
--- src/lib.rt:655:30
 push-requires : tie.Need-push-requires
 push-requires c κs = search needs
 
--- src/lib.rt:655:21
 put-pred-requires : tie.Need-put-pred-requires
 put-pred-requires c κs = search needs
 
--- src/lib.rt:655:62
 put-pred-requires-2 : tie.Need-put-pred-requires-2
 put-pred-requires-2 c κs = search needs
 
--- src/lib.rt:652:1
 returns : tie.Need-returns
-returns c = ?
+returns c = rw (c .before .before .if1 .taken) (c .before .push .ensures then c .put-pred .ensures)
 
--- src/lib.rt:652:1
 returns-2 : tie.Need-returns-2
-returns-2 c = ?
+returns-2 c = rw (c .before .if1 .left) (c .put-pred2 .ensures)
 
 pub put-condition-spec : {M : Type 1} → statement M
 put-condition-spec =

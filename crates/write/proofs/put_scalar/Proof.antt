@@ -1,40 +1,28 @@
+use Rattle.write.specs.Adds.{_then_}
 use borrow.Author.Needs.{needs}
 use Rattle.write.proofs.put_scalar.Statement.{statement}
 use Rattle.write.proofs.put_scalar.Tie as tie
-use Rattle.write.proofs.put_scalar.Reads as reads
-use Rattle.write.proofs.put_scalar.Lts as lts
-use Rattle.write.proofs.put_comma.Reads as put-comma-reads
-use Rattle.write.proofs.put_form_d.Reads as put-form-d-reads
-use Rattle.write.proofs.put_form_last.Reads as put-form-last-reads
-use Rattle.write.proofs.put_selected.Reads as put-selected-reads
 
--- src/lib.rt:504:37
 put-form-d-requires : tie.Need-put-form-d-requires
 put-form-d-requires c κs = search needs
 
--- src/lib.rt:504:27
 put-comma-requires : tie.Need-put-comma-requires
 put-comma-requires c κs = search needs
 
--- src/lib.rt:504:9
 put-selected-requires : tie.Need-put-selected-requires
 put-selected-requires c κs = search needs
 
--- src/lib.rt:505:27
 put-comma-requires-2 : tie.Need-put-comma-requires-2
 put-comma-requires-2 c κs = search needs
 
--- src/lib.rt:505:9
 put-selected-requires-2 : tie.Need-put-selected-requires-2
 put-selected-requires-2 c κs = search needs
 
--- src/lib.rt:506:5
 put-form-last-requires : tie.Need-put-form-last-requires
 put-form-last-requires c κs = search needs
 
--- src/lib.rt:498:1
 returns : tie.Need-returns
-returns c = ?
+returns c = c .before .before .before .before .before .put-form-d .ensures then (c .before .before .before .before .put-comma .ensures then c .before .before .before .put-selected .ensures) then (c .before .before .put-comma2 .ensures then c .before .put-selected2 .ensures) then c .put-form-last .ensures
 
 pub put-scalar-spec : {M : Type 1} → statement M
 put-scalar-spec =

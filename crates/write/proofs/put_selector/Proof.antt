@@ -1,81 +1,60 @@
 use borrow.Author.Needs.{needs}
 use Rattle.write.proofs.put_selector.Statement.{statement}
 use Rattle.write.proofs.put_selector.Tie as tie
-use Rattle.write.proofs.put_selector.Reads as reads
-use Rattle.write.proofs.put_selector.Lts as lts
-use Rattle.write.proofs.put2.Reads as put2-reads
 
--- src/lib.rt:447:25
 enum-told : tie.Need-enum-told
 enum-told c = search needs
 
--- src/lib.rt:447:25
 put2-requires : tie.Need-put2-requires
 put2-requires c κs = search needs
 
--- src/lib.rt:448:25
 enum-told-2 : tie.Need-enum-told-2
 enum-told-2 c = search needs
 
--- src/lib.rt:448:25
 put2-requires-2 : tie.Need-put2-requires-2
 put2-requires-2 c κs = search needs
 
--- src/lib.rt:449:25
 enum-told-3 : tie.Need-enum-told-3
 enum-told-3 c = search needs
 
--- src/lib.rt:449:25
 put2-requires-3 : tie.Need-put2-requires-3
 put2-requires-3 c κs = search needs
 
--- src/lib.rt:450:25
 enum-told-4 : tie.Need-enum-told-4
 enum-told-4 c = search needs
 
--- src/lib.rt:450:25
 put2-requires-4 : tie.Need-put2-requires-4
 put2-requires-4 c κs = search needs
 
--- src/lib.rt:451:25
 enum-told-5 : tie.Need-enum-told-5
 enum-told-5 c = search needs
 
--- src/lib.rt:451:25
 put2-requires-5 : tie.Need-put2-requires-5
 put2-requires-5 c κs = search needs
 
--- src/lib.rt:452:25
 enum-told-6 : tie.Need-enum-told-6
 enum-told-6 c = search needs
 
--- src/lib.rt:452:25
 put2-requires-6 : tie.Need-put2-requires-6
 put2-requires-6 c κs = search needs
 
--- src/lib.rt:443:1
 returns : tie.Need-returns
-returns c = ?
+returns c = rw (c .before .enum-told .given .1) (c .put2 .ensures)
 
--- src/lib.rt:443:1
 returns-2 : tie.Need-returns-2
-returns-2 c = ?
+returns-2 c = rw (c .before .enum-told2 .given .1) (c .put22 .ensures)
 
--- src/lib.rt:443:1
 returns-3 : tie.Need-returns-3
-returns-3 c = ?
+returns-3 c = rw (c .before .enum-told3 .given .1) (c .put23 .ensures)
 
--- src/lib.rt:443:1
 returns-4 : tie.Need-returns-4
-returns-4 c = ?
+returns-4 c = rw (c .before .enum-told4 .given .1) (c .put24 .ensures)
 
--- src/lib.rt:443:1
 returns-5 : tie.Need-returns-5
-returns-5 c = ?
+returns-5 c = rw (c .before .enum-told5 .given .1) (c .put25 .ensures)
 
--- src/lib.rt:443:1
 returns-6 : tie.Need-returns-6
-returns-6 c = ?
+returns-6 c = rw (c .before .enum-told6 .given .1) (c .put26 .ensures)
 
 pub put-selector-spec : {M : Type 1} → statement M
 put-selector-spec =

@@ -1,57 +1,42 @@
 use borrow.Author.Needs.{needs}
 use Rattle.write.proofs.put_unsigned.Statement.{statement}
 use Rattle.write.proofs.put_unsigned.Tie as tie
-use Rattle.write.proofs.put_unsigned.Reads as reads
-use Rattle.write.proofs.put_unsigned.Lts as lts
-use Rattle.write.proofs.put3.Reads as put3-reads
 
--- src/lib.rt:231:21
 enum-told : tie.Need-enum-told
 enum-told c = search needs
 
--- src/lib.rt:231:21
 put3-requires : tie.Need-put3-requires
 put3-requires c κs = search needs
 
--- src/lib.rt:232:21
 enum-told-2 : tie.Need-enum-told-2
 enum-told-2 c = search needs
 
--- src/lib.rt:232:21
 put3-requires-2 : tie.Need-put3-requires-2
 put3-requires-2 c κs = search needs
 
--- src/lib.rt:233:21
 enum-told-3 : tie.Need-enum-told-3
 enum-told-3 c = search needs
 
--- src/lib.rt:233:21
 put3-requires-3 : tie.Need-put3-requires-3
 put3-requires-3 c κs = search needs
 
--- src/lib.rt:234:21
 enum-told-4 : tie.Need-enum-told-4
 enum-told-4 c = search needs
 
--- src/lib.rt:234:21
 put3-requires-4 : tie.Need-put3-requires-4
 put3-requires-4 c κs = search needs
 
--- src/lib.rt:227:1
 returns : tie.Need-returns
-returns c = ?
+returns c = rw (c .before .enum-told .given .1) (c .put3 .ensures)
 
--- src/lib.rt:227:1
 returns-2 : tie.Need-returns-2
-returns-2 c = ?
+returns-2 c = rw (c .before .enum-told2 .given .1) (c .put32 .ensures)
 
--- src/lib.rt:227:1
 returns-3 : tie.Need-returns-3
-returns-3 c = ?
+returns-3 c = rw (c .before .enum-told3 .given .1) (c .put33 .ensures)
 
--- src/lib.rt:227:1
 returns-4 : tie.Need-returns-4
-returns-4 c = ?
+returns-4 c = rw (c .before .enum-told4 .given .1) (c .put34 .ensures)
 
 pub put-unsigned-spec : {M : Type 1} → statement M
 put-unsigned-spec =
