@@ -42,6 +42,10 @@ _then_ {x} {y} {z} {p} {q} a b =
 pub ends : {x p y : List ℕ} → Adds x p y → Adds x (p ++ []) y
 ends {x} {p} {y} a = record { text = rw (append-nil p) (a .text) }
 
+-- a piece and two that are left out
+pub bare-first : {x p y : List ℕ} → Adds x (p ++ [] ++ []) y → Adds x p y
+bare-first {x} {p} {y} a = record { text = simp append-nil at (a .text) }
+
 -- the names of two lists, joined
 pub dotted-both : {x y : List ℕ} (ms ns : List Name) → Adds x (dotted ms ++ dotted ns) y → Adds x (dotted (ms ++ ns)) y
 dotted-both {x} {y} ms ns a = record { text = rw (dotted-append ms ns) (a .text) }

@@ -661,13 +661,20 @@ fn put_sources(l: Line, s: Comparison) -> Line
     put_combination_last(l2, combination)
 }
 
+// One predicate, and `|_` where it is the first place of a pair.
+fn put_first(l: Line, a: Pred, pair: bool) -> Line
+    ensures { λ m. ⌜ Adds (textOf l) (registerText (p a) ++ cond pair (bytes "|") [] ++ cond pair (bytes "_") []) (textOf m) ⌝ }
+{
+    push_if(push_if(put_pred(l, a), pair, b'|'), pair, b'_')
+}
+
 fn put_destination(l: Line, d: Destination) -> Line
     ensures { λ m. ⌜ Adds (textOf l) (operandText (destinationTree d)) (textOf m) ⌝ }
 {
     match d {
-        Destination::One(a) => put_pred(l, a),
+        Destination::One(a) => put_first(l, a, false),
         Destination::Pair(a, b) => put_pred(push(put_pred(l, a), b'|'), b),
-        Destination::First(a) => push(push(put_pred(l, a), b'|'), b'_'),
+        Destination::First(a) => put_first(l, a, true),
         Destination::Second(b) => put_pred(put2(l, b'_', b'|'), b),
     }
 }
