@@ -695,14 +695,16 @@ fn instruction_apart(i: Instruction) -> bool
 
 // ---- the four rules of a record, and all together
 
-fn modifiers_fit(r: Record) -> bool
+// Modifiers as the table has them.
+pub fn modifiers_fit(r: Record) -> bool
     ensures { λ x. ⌜ x ≡ modifiersFit r ⌝ }
 {
     let i = r.instruction;
     instruction_modifiers_fit(i)
 }
 
-fn operands_fit(r: Record) -> bool
+// Operands of the right kind; register numbers and pairs aside.
+pub fn operands_fit(r: Record) -> bool
     ensures { λ x. ⌜ x ≡ operandsFit r ⌝ }
 {
     let i = r.instruction;

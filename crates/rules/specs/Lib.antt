@@ -11,3 +11,4 @@ pub mod Writing
 pub mod LineLengths
 pub mod Grammar
 pub mod Reading
+pub mod StandardTree

@@ -1,0 +1,224 @@
+use mathlib.Core.Path.{_≡_}
+use contract.Lifetimes.{Lfts}
+use borrow.Fn.Kinds.{Dens, endedOf}
+use denote.Triple.Clauses.{AtExit}
+use Rattle.base.specs.Promise.{one-outcome}
+use Rattle.fills.specs.declared.Filled.{Filled}
+use Rattle.fills.proofs.fill_in.Reads as reads
+use Rattle.fills.proofs.fill_in.Kinds as kinds
+use Rattle.fills.specs.Fills.{filledOf}
+use borrow.Author.Needs.{needs}
+use Rattle.fills.proofs.fill_in.Statement.{statement}
+use Rattle.fills.proofs.fill_in.Tie as tie
+
+tree-at-requires : tie.Need-tree-at-requires
+tree-at-requires c κs = search needs
+
+tree-at-requires-2 : tie.Need-tree-at-requires-2
+tree-at-requires-2 c κs = search needs
+
+enum-known-i : tie.Need-enum-known-i
+enum-known-i c = search needs
+
+scalar-of-requires : tie.Need-scalar-of-requires
+scalar-of-requires c κs = search needs
+
+arithmetic-from-requires : tie.Need-arithmetic-from-requires
+arithmetic-from-requires c κs = search needs
+
+enum-known-i-2 : tie.Need-enum-known-i-2
+enum-known-i-2 c = search needs
+
+scalar-of-requires-2 : tie.Need-scalar-of-requires-2
+scalar-of-requires-2 c κs = search needs
+
+vset-from-requires : tie.Need-vset-from-requires
+vset-from-requires c κs = search needs
+
+enum-known-i-3 : tie.Need-enum-known-i-3
+enum-known-i-3 c = search needs
+
+lanes-of-requires : tie.Need-lanes-of-requires
+lanes-of-requires c κs = search needs
+
+lanes-from-requires : tie.Need-lanes-from-requires
+lanes-from-requires c κs = search needs
+
+enum-known-i-4 : tie.Need-enum-known-i-4
+enum-known-i-4 c = search needs
+
+bare-word-requires : tie.Need-bare-word-requires
+bare-word-requires c κs = search needs
+
+comparison-of-requires : tie.Need-comparison-of-requires
+comparison-of-requires c κs = search needs
+
+set-from-requires : tie.Need-set-from-requires
+set-from-requires c κs = search needs
+
+enum-known-i-5 : tie.Need-enum-known-i-5
+enum-known-i-5 c = search needs
+
+destination-of-requires : tie.Need-destination-of-requires
+destination-of-requires c κs = search needs
+
+comparison-of-requires-2 : tie.Need-comparison-of-requires-2
+comparison-of-requires-2 c κs = search needs
+
+setp-from-requires : tie.Need-setp-from-requires
+setp-from-requires c κs = search needs
+
+enum-known-i-6 : tie.Need-enum-known-i-6
+enum-known-i-6 c = search needs
+
+choice-of-requires : tie.Need-choice-of-requires
+choice-of-requires c κs = search needs
+
+bare-pred-requires : tie.Need-bare-pred-requires
+bare-pred-requires c κs = search needs
+
+selp-from-requires : tie.Need-selp-from-requires
+selp-from-requires c κs = search needs
+
+enum-known-i-7 : tie.Need-enum-known-i-7
+enum-known-i-7 c = search needs
+
+choice-of-requires-2 : tie.Need-choice-of-requires-2
+choice-of-requires-2 c κs = search needs
+
+bare-word-requires-2 : tie.Need-bare-word-requires-2
+bare-word-requires-2 c κs = search needs
+
+last-by-requires : tie.Need-last-by-requires
+last-by-requires c κs = search needs
+
+slct-from-requires : tie.Need-slct-from-requires
+slct-from-requires c κs = search needs
+
+returns : tie.Need-returns
+unfolding filledOf
+returns c =
+    simp (
+      c .arithmetic-from .ensures,
+      c .before .scalar-of .ensures,
+      c .before .before .before .i .given .1,
+      c .before .before .before .before .before .tree-at2 .ensures,
+      c .before .before .before .before .before .before .tree-at .ensures,
+    )
+
+returns-2 : tie.Need-returns-2
+unfolding filledOf
+returns-2 c =
+    simp (
+      c .vset-from .ensures,
+      c .before .scalar-of2 .ensures,
+      c .before .before .before .i2 .given .1,
+      c .before .before .before .before .before .tree-at2 .ensures,
+      c .before .before .before .before .before .before .tree-at .ensures,
+    )
+
+returns-3 : tie.Need-returns-3
+unfolding filledOf
+returns-3 c =
+    simp (
+      c .lanes-from .ensures,
+      c .before .lanes-of .ensures,
+      c .before .before .before .i3 .given .1,
+      c .before .before .before .before .before .tree-at2 .ensures,
+      c .before .before .before .before .before .before .tree-at .ensures,
+    )
+
+returns-4 : tie.Need-returns-4
+unfolding filledOf
+returns-4 c =
+    simp (
+      c .set-from .ensures,
+      c .before .comparison-of .ensures,
+      c .before .before .bare-word .ensures,
+      c .before .before .before .before .i4 .given .1,
+      c .before .before .before .before .before .before .tree-at2 .ensures,
+      c .before .before .before .before .before .before .before .tree-at .ensures,
+    )
+
+returns-5 : tie.Need-returns-5
+unfolding filledOf
+returns-5 c =
+    simp (
+      c .setp-from .ensures,
+      c .before .comparison-of2 .ensures,
+      c .before .before .destination-of .ensures,
+      c .before .before .before .before .i5 .given .1,
+      c .before .before .before .before .before .before .tree-at2 .ensures,
+      c .before .before .before .before .before .before .before .tree-at .ensures,
+    )
+
+returns-6 : tie.Need-returns-6
+unfolding filledOf
+returns-6 c =
+    simp (
+      c .selp-from .ensures,
+      c .before .bare-pred .ensures,
+      c .before .before .choice-of .ensures,
+      c .before .before .before .before .i6 .given .1,
+      c .before .before .before .before .before .before .tree-at2 .ensures,
+      c .before .before .before .before .before .before .before .tree-at .ensures,
+    )
+
+returns-7 : tie.Need-returns-7
+unfolding filledOf
+returns-7 c =
+    simp (
+      c .slct-from .ensures,
+      c .before .last-by .ensures,
+      c .before .before .bare-word2 .ensures,
+      c .before .before .before .choice-of2 .ensures,
+      c .before .before .before .before .before .i7 .given .1,
+      c .before .before .before .before .before .before .before .tree-at2 .ensures,
+      c .before .before .before .before .before .before .before .before .tree-at .ensures,
+    )
+
+pub fill-in-spec : {M : Type 1} → statement M
+fill-in-spec =
+    tie.close
+    (tie.spec
+    tree-at-requires
+    tree-at-requires-2
+    enum-known-i
+    scalar-of-requires
+    arithmetic-from-requires
+    enum-known-i-2
+    scalar-of-requires-2
+    vset-from-requires
+    enum-known-i-3
+    lanes-of-requires
+    lanes-from-requires
+    enum-known-i-4
+    bare-word-requires
+    comparison-of-requires
+    set-from-requires
+    enum-known-i-5
+    destination-of-requires
+    comparison-of-requires-2
+    setp-from-requires
+    enum-known-i-6
+    choice-of-requires
+    bare-pred-requires
+    selp-from-requires
+    enum-known-i-7
+    choice-of-requires-2
+    bare-word-requires-2
+    last-by-requires
+    slct-from-requires
+    returns
+    returns-2
+    returns-3
+    returns-4
+    returns-5
+    returns-6
+    returns-7)
+
+-- no two outcomes satisfy the contract as it stands in src/lib.rt
+pub fill-in-one-outcome :
+    (κs : Lfts 0) (a : Dens κs kinds.ps) (x y : Filled) (s t : AtExit (endedOf 0 kinds.ps kinds.r) κs)
+    → reads.Post κs a x s → reads.Post κs a y t → x ≡ y
+fill-in-one-outcome κs a x y s t p q = one-outcome p q

@@ -1,0 +1,76 @@
+use Rattle.fills.specs.Fills.{lanesOf}
+use borrow.Author.Needs.{needs}
+use Rattle.fills.proofs.lanes_of.Statement.{statement}
+use Rattle.fills.proofs.lanes_of.Tie as tie
+
+tree-at-requires : tie.Need-tree-at-requires
+tree-at-requires c κs = search needs
+
+masked-of-requires : tie.Need-masked-of-requires
+masked-of-requires c κs = search needs
+
+default-a-requires : tie.Need-default-a-requires
+default-a-requires c κs = search needs
+
+tree-at-requires-2 : tie.Need-tree-at-requires-2
+tree-at-requires-2 c κs = search needs
+
+laned-of-requires : tie.Need-laned-of-requires
+laned-of-requires c κs = search needs
+
+default-b-requires : tie.Need-default-b-requires
+default-b-requires c κs = search needs
+
+tree-at-requires-3 : tie.Need-tree-at-requires-3
+tree-at-requires-3 c κs = search needs
+
+laned-of-requires-2 : tie.Need-laned-of-requires-2
+laned-of-requires-2 c κs = search needs
+
+tree-at-requires-4 : tie.Need-tree-at-requires-4
+tree-at-requires-4 c κs = search needs
+
+bare-word-requires : tie.Need-bare-word-requires
+bare-word-requires c κs = search needs
+
+last-by-requires : tie.Need-last-by-requires
+last-by-requires c κs = search needs
+
+lanes-by-requires : tie.Need-lanes-by-requires
+lanes-by-requires c κs = search needs
+
+returns : tie.Need-returns
+unfolding lanesOf
+returns c =
+    simp (
+      c .lanes-by .ensures,
+      c .before .last-by .ensures,
+      c .before .before .bare-word .ensures,
+      c .before .before .before .tree-at4 .ensures,
+      c .before .before .before .before .laned-of2 .ensures,
+      c .before .before .before .before .before .tree-at3 .ensures,
+      c .before .before .before .before .before .before .default-b .ensures,
+      c .before .before .before .before .before .before .before .laned-of .ensures,
+      c .before .before .before .before .before .before .before .before .tree-at2 .ensures,
+      c .before .before .before .before .before .before .before .before .before .default-a .ensures,
+      c .before .before .before .before .before .before .before .before .before .before .masked-of .ensures,
+      c .before .before .before .before .before .before .before .before .before .before .before .tree-at .ensures,
+    )
+
+pub lanes-of-spec : {M : Type 1} → statement M
+lanes-of-spec =
+    tie.close
+    (tie.spec
+    tree-at-requires
+    masked-of-requires
+    default-a-requires
+    tree-at-requires-2
+    laned-of-requires
+    default-b-requires
+    tree-at-requires-3
+    laned-of-requires-2
+    tree-at-requires-4
+    bare-word-requires
+    last-by-requires
+    lanes-by-requires
+    returns)

@@ -1,0 +1,26 @@
+use borrow.Author.Needs.{needs}
+use Rattle.fills.proofs.word_of.Statement.{statement}
+use Rattle.fills.proofs.word_of.Tie as tie
+
+enum-known-p : tie.Need-enum-known-p
+enum-known-p c = search needs
+
+enum-told : tie.Need-enum-told
+enum-told c = search needs
+
+enum-told-2 : tie.Need-enum-told-2
+enum-told-2 c = search needs
+
+returns : tie.Need-returns
+returns c =
+    simp
+    (c .before .p .given .1)
+
+returns-2 : tie.Need-returns-2
+returns-2 c = search needs
+
+returns-3 : tie.Need-returns-3
+returns-3 c = search needs
+
+pub word-of-spec : {M : Type 1} → statement M
+word-of-spec = tie.close (tie.spec enum-known-p enum-told enum-told-2 returns returns-2 returns-3)

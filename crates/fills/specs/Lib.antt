@@ -1,0 +1,7 @@
+pub mod Lookup
+pub mod Registers
+pub mod Selectors
+pub mod Fills
+pub mod NameLaws
+pub mod FillComplete
+pub mod FillSound

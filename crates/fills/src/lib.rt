@@ -1,0 +1,1047 @@
+// The operands of a line, taken into the instruction that its head names.
+use record::Arith;
+use record::BoolOp;
+use record::Choice;
+use record::Cmp6;
+use record::Combination;
+use record::Comparison;
+use record::Condition;
+use record::DataType;
+use record::Destination;
+use record::Digits;
+use record::Form;
+use record::Instruction;
+use record::LaneWidth;
+use record::Lanes;
+use record::Mask;
+use record::Op2;
+use record::Operand;
+use record::Pred;
+use record::Scalar;
+use record::Selected;
+use record::Selector;
+use record::SetType;
+use record::SlctType;
+use record::VideoType;
+use record::Word;
+use tree::Operands;
+use tree::Place;
+use tree::Spot;
+use tree::Tree;
+ghost use mathlib.Core.Path.{_≡_};
+ghost use Prim.Native.Nat.{_<_};
+ghost use Rattle.base.specs.Pack.{pack};
+ghost use Rattle.rules.specs.Shape.{digit};
+ghost use Rattle.rules.specs.Names.{digitsName};
+ghost use Rattle.record.specs.Operands.{fullMask, defaultA, defaultB};
+ghost use Rattle.fills.specs.Registers.{wordOf, predOf, operandOf, bareWord, barePred, bareOperand, conditionBy, conditionOf, spotBy, spotOf, pairBy, secondBy, spotsBy, oneBy, destinationOf};
+ghost use Rattle.fills.specs.Selectors.{selectorOf, maskFound, halfMask, byteMask, maskOf, digitsIn, digitsOf};
+ghost use Rattle.fills.specs.Fills.{treeAt, wholeBy, partBy, selectedOf, startPlain, startCombine, startOf, lastBy, plainForm, mergeForm, combineForm, formOf, scalarBy, scalarEnd, scalarOf, maskedBy, maskedOf, lanedBy, lanedOf, lanesWith, lanesBy, lanesOf, aloneBy, withBy, combinationOf, comparisonBy, comparisonEnd, comparisonOf, choiceBy, choiceOf, arithmeticFrom, vsetFrom, lanesFrom, setFrom, setpFrom, selpBy, selpFrom, slctBy, slctFrom, filledOf};
+
+// The instruction with the line's operands, or the index of the first operand that is wrong.
+pub enum Filled {
+    Full(Instruction),
+    Wrong(usize),
+}
+
+// The places that are kept of a line's operands.
+const KEPT: usize = 5;
+
+// A name's bytes are the digits of its number, the first the lowest; and the bytes `0`, `b` and `h`.
+const RADIX: u64 = 128;
+
+const ZERO: u64 = 48;
+
+const LETTER_B: u64 = 98;
+
+const LETTER_H: u64 = 104;
+
+// ---- an operand by its place
+
+// Past the fifth stands `_|_`, which no opcode takes.
+fn tree_at(o: Operands, k: usize) -> Tree
+    ensures { λ r. ⌜ r ≡ treeAt o k ⌝ }
+{
+    let at = o.at;
+    if KEPT <= k {
+        return Tree::Pair(Spot::Nothing, Spot::Nothing);
+    }
+    let s = at[k];
+    s.tree
+}
+
+// ---- a register of the kind that the place takes
+
+enum WordFound {
+    Is(Word),
+    Not,
+}
+
+enum PredFound {
+    Is(Pred),
+    Not,
+}
+
+enum OperandFound {
+    Is(Operand),
+    Not,
+}
+
+fn word_of(p: Place) -> WordFound
+    ensures { λ r. ⌜ r ≡ wordOf p ⌝ }
+{
+    match p {
+        Place::Word(w) => WordFound::Is(w),
+        Place::Double(_) => WordFound::Not,
+        Place::Pred(_) => WordFound::Not,
+    }
+}
+
+fn pred_of(p: Place) -> PredFound
+    ensures { λ r. ⌜ r ≡ predOf p ⌝ }
+{
+    match p {
+        Place::Word(_) => PredFound::Not,
+        Place::Double(_) => PredFound::Not,
+        Place::Pred(q) => PredFound::Is(q),
+    }
+}
+
+fn operand_of(p: Place) -> OperandFound
+    ensures { λ r. ⌜ r ≡ operandOf p ⌝ }
+{
+    match p {
+        Place::Word(w) => OperandFound::Is(Operand::Word(w)),
+        Place::Double(d) => OperandFound::Is(Operand::Double(d)),
+        Place::Pred(_) => OperandFound::Not,
+    }
+}
+
+fn bare_word(t: Tree) -> WordFound
+    ensures { λ r. ⌜ r ≡ bareWord t ⌝ }
+{
+    match t {
+        Tree::Inverted(_) => WordFound::Not,
+        Tree::Pair(_, _) => WordFound::Not,
+        Tree::Bare(p) => word_of(p),
+        Tree::Part(_, _) => WordFound::Not,
+    }
+}
+
+fn bare_pred(t: Tree) -> PredFound
+    ensures { λ r. ⌜ r ≡ barePred t ⌝ }
+{
+    match t {
+        Tree::Inverted(_) => PredFound::Not,
+        Tree::Pair(_, _) => PredFound::Not,
+        Tree::Bare(p) => pred_of(p),
+        Tree::Part(_, _) => PredFound::Not,
+    }
+}
+
+fn bare_operand(t: Tree) -> OperandFound
+    ensures { λ r. ⌜ r ≡ bareOperand t ⌝ }
+{
+    match t {
+        Tree::Inverted(_) => OperandFound::Not,
+        Tree::Pair(_, _) => OperandFound::Not,
+        Tree::Bare(p) => operand_of(p),
+        Tree::Part(_, _) => OperandFound::Not,
+    }
+}
+
+// ---- c of set and setp: a predicate with optional `!`
+
+enum ConditionFound {
+    Is(Condition),
+    Not,
+}
+
+fn condition_by(inverted: bool, p: PredFound) -> ConditionFound
+    ensures { λ r. ⌜ r ≡ conditionBy inverted p ⌝ }
+{
+    match p {
+        PredFound::Is(pred) => ConditionFound::Is(Condition { inverted, pred }),
+        PredFound::Not => ConditionFound::Not,
+    }
+}
+
+fn condition_of(t: Tree) -> ConditionFound
+    ensures { λ r. ⌜ r ≡ conditionOf t ⌝ }
+{
+    match t {
+        Tree::Inverted(p) => condition_by(true, pred_of(p)),
+        Tree::Pair(_, _) => ConditionFound::Not,
+        Tree::Bare(p) => condition_by(false, pred_of(p)),
+        Tree::Part(_, _) => ConditionFound::Not,
+    }
+}
+
+// ---- d of setp: one predicate, or a pair of which one may be `_`
+
+enum DestinationFound {
+    Is(Destination),
+    Not,
+}
+
+enum SpotFound {
+    Is(Pred),
+    Dropped,
+    Not,
+}
+
+fn spot_by(p: PredFound) -> SpotFound
+    ensures { λ r. ⌜ r ≡ spotBy p ⌝ }
+{
+    match p {
+        PredFound::Is(q) => SpotFound::Is(q),
+        PredFound::Not => SpotFound::Not,
+    }
+}
+
+fn spot_of(s: Spot) -> SpotFound
+    ensures { λ r. ⌜ r ≡ spotOf s ⌝ }
+{
+    match s {
+        Spot::At(p) => spot_by(pred_of(p)),
+        Spot::Nothing => SpotFound::Dropped,
+    }
+}
+
+fn pair_by(p: Pred, second: SpotFound) -> DestinationFound
+    ensures { λ r. ⌜ r ≡ pairBy p second ⌝ }
+{
+    match second {
+        SpotFound::Is(q) => DestinationFound::Is(Destination::Pair(p, q)),
+        SpotFound::Dropped => DestinationFound::Is(Destination::First(p)),
+        SpotFound::Not => DestinationFound::Not,
+    }
+}
+
+// After `_`: another `_` is wrong.
+fn second_by(second: SpotFound) -> DestinationFound
+    ensures { λ r. ⌜ r ≡ secondBy second ⌝ }
+{
+    match second {
+        SpotFound::Is(q) => DestinationFound::Is(Destination::Second(q)),
+        SpotFound::Dropped => DestinationFound::Not,
+        SpotFound::Not => DestinationFound::Not,
+    }
+}
+
+fn spots_by(first: SpotFound, second: SpotFound) -> DestinationFound
+    ensures { λ r. ⌜ r ≡ spotsBy first second ⌝ }
+{
+    match first {
+        SpotFound::Is(p) => pair_by(p, second),
+        SpotFound::Dropped => second_by(second),
+        SpotFound::Not => DestinationFound::Not,
+    }
+}
+
+fn one_by(p: PredFound) -> DestinationFound
+    ensures { λ r. ⌜ r ≡ oneBy p ⌝ }
+{
+    match p {
+        PredFound::Is(q) => DestinationFound::Is(Destination::One(q)),
+        PredFound::Not => DestinationFound::Not,
+    }
+}
+
+fn destination_of(t: Tree) -> DestinationFound
+    ensures { λ r. ⌜ r ≡ destinationOf t ⌝ }
+{
+    match t {
+        Tree::Inverted(_) => DestinationFound::Not,
+        Tree::Pair(p, q) => spots_by(spot_of(p), spot_of(q)),
+        Tree::Bare(p) => one_by(pred_of(p)),
+        Tree::Part(_, _) => DestinationFound::Not,
+    }
+}
+
+// ---- names of selectors and masks, by their numbers
+
+enum SelectorFound {
+    Is(Selector),
+    Not,
+}
+
+enum MaskFound {
+    Is(Mask),
+    Not,
+}
+
+enum DigitsFound {
+    Is(Digits),
+    Not,
+}
+
+// b0 b1 b2 b3 h0 h1
+fn selector_of(x: u64) -> SelectorFound
+    ensures { λ r. ⌜ r ≡ selectorOf x ⌝ }
+{
+    match x {
+        6242 => SelectorFound::Is(Selector::B0), // b0
+        6370 => SelectorFound::Is(Selector::B1), // b1
+        6498 => SelectorFound::Is(Selector::B2), // b2
+        6626 => SelectorFound::Is(Selector::B3), // b3
+        6248 => SelectorFound::Is(Selector::H0), // h0
+        6376 => SelectorFound::Is(Selector::H1), // h1
+        _ => SelectorFound::Not,
+    }
+}
+
+// The lanes in the order of a name's digits.
+fn mask_found(lane3: bool, lane2: bool, lane1: bool, lane0: bool) -> MaskFound
+    ensures { λ r. ⌜ r ≡ maskFound lane3 lane2 lane1 lane0 ⌝ }
+{
+    MaskFound::Is(Mask {
+        lane0,
+        lane1,
+        lane2,
+        lane3,
+    })
+}
+
+// h0 h1 h10
+fn half_mask(x: u64) -> MaskFound
+    ensures { λ r. ⌜ r ≡ halfMask x ⌝ }
+{
+    match x {
+        6248 => mask_found(false, false, false, true), // h0
+        6376 => mask_found(false, false, true, false), // h1
+        792808 => mask_found(false, false, true, true), // h10
+        _ => MaskFound::Not,
+    }
+}
+
+// The fifteen names of `b` and strictly falling digits from 3 2 1 0.
+fn byte_mask(x: u64) -> MaskFound
+    ensures { λ r. ⌜ r ≡ byteMask x ⌝ }
+{
+    match x {
+        6242 => mask_found(false, false, false, true), // b0
+        6370 => mask_found(false, false, true, false), // b1
+        792802 => mask_found(false, false, true, true), // b10
+        6498 => mask_found(false, true, false, false), // b2
+        792930 => mask_found(false, true, false, true), // b20
+        809314 => mask_found(false, true, true, false), // b21
+        101472610 => mask_found(false, true, true, true), // b210
+        6626 => mask_found(true, false, false, false), // b3
+        793058 => mask_found(true, false, false, true), // b30
+        809442 => mask_found(true, false, true, false), // b31
+        101472738 => mask_found(true, false, true, true), // b310
+        825826 => mask_found(true, true, false, false), // b32
+        101489122 => mask_found(true, true, false, true), // b320
+        103586274 => mask_found(true, true, true, false), // b321
+        12988488162 => mask_found(true, true, true, true), // b3210
+        _ => MaskFound::Not,
+    }
+}
+
+fn mask_of(w: LaneWidth, x: u64) -> MaskFound
+    ensures { λ r. ⌜ r ≡ maskOf w x ⌝ }
+{
+    match w {
+        LaneWidth::Half => half_mask(x),
+        LaneWidth::Byte => byte_mask(x),
+    }
+}
+
+// What a digit stands for: the low bits of its byte, 0-3 of a half's and 0-7 of a byte's. The first digit is the highest lane's.
+fn digits_in(w: LaneWidth, x: u64) -> Digits
+    ensures { λ r. ⌜ r ≡ digitsIn w x ⌝ }
+{
+    let x1 = x / RADIX;
+    let x2 = x1 / RADIX;
+    let x3 = x2 / RADIX;
+    let x4 = x3 / RADIX;
+    match w {
+        LaneWidth::Half => Digits {
+            lane0: (x2 % 4) as u8,
+            lane1: (x1 % 4) as u8,
+            lane2: 0,
+            lane3: 0,
+        },
+        LaneWidth::Byte => Digits {
+            lane0: (x4 % 8) as u8,
+            lane1: (x3 % 8) as u8,
+            lane2: (x2 % 8) as u8,
+            lane3: (x1 % 8) as u8,
+        },
+    }
+}
+
+// The byte of a digit.
+fn digit(k: u8) -> u64
+    ensures { λ r. ⌜ (r ≡ digit k) × (r < 58) ⌝ }
+{
+    (k % 10) as u64 + ZERO
+}
+
+// The number of a selector's name.
+fn digits_code(w: LaneWidth, s: Digits) -> u64
+    ensures { λ r. ⌜ r ≡ pack (digitsName w s) ⌝ }
+{
+    let low = digit(s.lane1) + RADIX * digit(s.lane0);
+    let high = digit(s.lane3) + RADIX * digit(s.lane2);
+    match w {
+        LaneWidth::Half => LETTER_H + RADIX * low,
+        LaneWidth::Byte => LETTER_B + RADIX * (high + RADIX * RADIX * low),
+    }
+}
+
+// The name is a selector's exactly when what its digits stand for has this very name.
+fn digits_of(w: LaneWidth, x: u64) -> DigitsFound
+    ensures { λ r. ⌜ r ≡ digitsOf w x ⌝ }
+{
+    let s = digits_in(w, x);
+    if digits_code(w, s) == x {
+        return DigitsFound::Is(s);
+    }
+    DigitsFound::Not
+}
+
+// ---- scalar video
+
+enum SelectedFound {
+    Is(Selected),
+    Not,
+}
+
+// d, with what the head says of the form: c is not read yet.
+enum Start {
+    Plain(Word),
+    Merge(Word, Selector),
+    Combine(Op2, Word),
+}
+
+enum StartFound {
+    Is(Start),
+    Not,
+}
+
+// The last operand, or the index at which the operands are wrong.
+enum LastFound {
+    Is(Word),
+    Wrong(usize),
+}
+
+enum FormFound {
+    Is(Form),
+    Wrong(usize),
+}
+
+enum ScalarFound {
+    Is(Scalar),
+    Wrong(usize),
+}
+
+fn whole_by(w: WordFound) -> SelectedFound
+    ensures { λ r. ⌜ r ≡ wholeBy w ⌝ }
+{
+    match w {
+        WordFound::Is(v) => SelectedFound::Is(Selected::Whole(v)),
+        WordFound::Not => SelectedFound::Not,
+    }
+}
+
+fn part_by(w: WordFound, s: SelectorFound) -> SelectedFound
+    ensures { λ r. ⌜ r ≡ partBy w s ⌝ }
+{
+    let WordFound::Is(v) = w else {
+        return SelectedFound::Not;
+    };
+    let SelectorFound::Is(sel) = s else {
+        return SelectedFound::Not;
+    };
+    SelectedFound::Is(Selected::Part(v, sel))
+}
+
+fn selected_of(t: Tree) -> SelectedFound
+    ensures { λ r. ⌜ r ≡ selectedOf t ⌝ }
+{
+    match t {
+        Tree::Inverted(_) => SelectedFound::Not,
+        Tree::Pair(_, _) => SelectedFound::Not,
+        Tree::Bare(p) => whole_by(word_of(p)),
+        Tree::Part(p, x) => part_by(word_of(p), selector_of(x)),
+    }
+}
+
+// Without OP2: a selector on d asks for c.
+fn start_plain(d: Selected) -> StartFound
+    ensures { λ r. ⌜ r ≡ startPlain d ⌝ }
+{
+    match d {
+        Selected::Whole(w) => StartFound::Is(Start::Plain(w)),
+        Selected::Part(w, sel) => StartFound::Is(Start::Merge(w, sel)),
+    }
+}
+
+// With OP2: d is bare.
+fn start_combine(op: Op2, d: Selected) -> StartFound
+    ensures { λ r. ⌜ r ≡ startCombine op d ⌝ }
+{
+    match d {
+        Selected::Whole(w) => StartFound::Is(Start::Combine(op, w)),
+        Selected::Part(_, _) => StartFound::Not,
+    }
+}
+
+fn start_of(form: Form, d: SelectedFound) -> StartFound
+    ensures { λ r. ⌜ r ≡ startOf form d ⌝ }
+{
+    let SelectedFound::Is(s) = d else {
+        return StartFound::Not;
+    };
+    match form {
+        Form::Plain { .. } => start_plain(s),
+        Form::Merge { .. } => start_plain(s),
+        Form::Combine { op, .. } => start_combine(op, s),
+    }
+}
+
+// c, where it is the fourth operand and the last.
+fn last_by(n: usize, c: WordFound) -> LastFound
+    ensures { λ r. ⌜ r ≡ lastBy n c ⌝ }
+{
+    let WordFound::Is(w) = c else {
+        return LastFound::Wrong(3);
+    };
+    if n == 4 {
+        return LastFound::Is(w);
+    }
+    LastFound::Wrong(4)
+}
+
+fn plain_form(d: Word, n: usize) -> FormFound
+    ensures { λ r. ⌜ r ≡ plainForm d n ⌝ }
+{
+    if n == 3 {
+        return FormFound::Is(Form::Plain { d });
+    }
+    FormFound::Wrong(3)
+}
+
+fn merge_form(d: Word, sel: Selector, last: LastFound) -> FormFound
+    ensures { λ r. ⌜ r ≡ mergeForm d sel last ⌝ }
+{
+    match last {
+        LastFound::Is(c) => FormFound::Is(Form::Merge { d, sel, c }),
+        LastFound::Wrong(k) => FormFound::Wrong(k),
+    }
+}
+
+fn combine_form(op: Op2, d: Word, last: LastFound) -> FormFound
+    ensures { λ r. ⌜ r ≡ combineForm op d last ⌝ }
+{
+    match last {
+        LastFound::Is(c) => FormFound::Is(Form::Combine { op, d, c }),
+        LastFound::Wrong(k) => FormFound::Wrong(k),
+    }
+}
+
+fn form_of(start: Start, n: usize, c: WordFound) -> FormFound
+    ensures { λ r. ⌜ r ≡ formOf start n c ⌝ }
+{
+    match start {
+        Start::Plain(d) => plain_form(d, n),
+        Start::Merge(d, sel) => merge_form(d, sel, last_by(n, c)),
+        Start::Combine(op, d) => combine_form(op, d, last_by(n, c)),
+    }
+}
+
+fn scalar_end(s: Scalar, form: FormFound, a: Selected, b: Selected) -> ScalarFound
+    ensures { λ r. ⌜ r ≡ scalarEnd s form a b ⌝ }
+{
+    let atype = s.atype;
+    let btype = s.btype;
+    match form {
+        FormFound::Is(form) => ScalarFound::Is(Scalar {
+            atype,
+            btype,
+            form,
+            a,
+            b,
+        }),
+        FormFound::Wrong(k) => ScalarFound::Wrong(k),
+    }
+}
+
+fn scalar_by(
+    s: Scalar,
+    n: usize,
+    d: StartFound,
+    a: SelectedFound,
+    b: SelectedFound,
+    c: WordFound,
+) -> ScalarFound
+    ensures { λ r. ⌜ r ≡ scalarBy s n d a b c ⌝ }
+{
+    let StartFound::Is(start) = d else {
+        return ScalarFound::Wrong(0);
+    };
+    let SelectedFound::Is(x) = a else {
+        return ScalarFound::Wrong(1);
+    };
+    let SelectedFound::Is(y) = b else {
+        return ScalarFound::Wrong(2);
+    };
+    scalar_end(s, form_of(start, n, c), x, y)
+}
+
+fn scalar_of(s: Scalar, o: Operands) -> ScalarFound
+    ensures { λ r. ⌜ r ≡ scalarOf s o ⌝ }
+{
+    let n = o.n;
+    let form = s.form;
+    let d = start_of(form, selected_of(tree_at(o, 0)));
+    let a = selected_of(tree_at(o, 1));
+    let b = selected_of(tree_at(o, 2));
+    scalar_by(s, n, d, a, b, bare_word(tree_at(o, 3)))
+}
+
+// ---- vset2, vset4
+
+struct Masked {
+    word: Word,
+    mask: Mask,
+}
+
+enum MaskedFound {
+    Is(Masked),
+    Not,
+}
+
+struct Laned {
+    word: Word,
+    digits: Digits,
+}
+
+enum LanedFound {
+    Is(Laned),
+    Not,
+}
+
+enum LanesFound {
+    Is(Lanes),
+    Wrong(usize),
+}
+
+fn full_mask(w: LaneWidth) -> MaskFound
+    ensures { λ r. ⌜ r ≡ MaskFound.Is (fullMask w) ⌝ }
+{
+    match w {
+        LaneWidth::Half => mask_found(false, false, true, true),
+        LaneWidth::Byte => mask_found(true, true, true, true),
+    }
+}
+
+fn default_a(w: LaneWidth) -> Digits
+    ensures { λ r. ⌜ r ≡ defaultA w ⌝ }
+{
+    match w {
+        LaneWidth::Half => Digits {
+            lane0: 0,
+            lane1: 1,
+            lane2: 0,
+            lane3: 0,
+        },
+        LaneWidth::Byte => Digits {
+            lane0: 0,
+            lane1: 1,
+            lane2: 2,
+            lane3: 3,
+        },
+    }
+}
+
+fn default_b(w: LaneWidth) -> Digits
+    ensures { λ r. ⌜ r ≡ defaultB w ⌝ }
+{
+    match w {
+        LaneWidth::Half => Digits {
+            lane0: 2,
+            lane1: 3,
+            lane2: 0,
+            lane3: 0,
+        },
+        LaneWidth::Byte => Digits {
+            lane0: 4,
+            lane1: 5,
+            lane2: 6,
+            lane3: 7,
+        },
+    }
+}
+
+fn masked_by(w: WordFound, m: MaskFound) -> MaskedFound
+    ensures { λ r. ⌜ r ≡ maskedBy w m ⌝ }
+{
+    let WordFound::Is(word) = w else {
+        return MaskedFound::Not;
+    };
+    let MaskFound::Is(mask) = m else {
+        return MaskedFound::Not;
+    };
+    MaskedFound::Is(Masked { word, mask })
+}
+
+fn laned_by(w: WordFound, s: DigitsFound) -> LanedFound
+    ensures { λ r. ⌜ r ≡ lanedBy w s ⌝ }
+{
+    let WordFound::Is(word) = w else {
+        return LanedFound::Not;
+    };
+    let DigitsFound::Is(digits) = s else {
+        return LanedFound::Not;
+    };
+    LanedFound::Is(Laned { word, digits })
+}
+
+// d, with its mask.
+fn masked_of(w: LaneWidth, t: Tree) -> MaskedFound
+    ensures { λ r. ⌜ r ≡ maskedOf w t ⌝ }
+{
+    match t {
+        Tree::Inverted(_) => MaskedFound::Not,
+        Tree::Pair(_, _) => MaskedFound::Not,
+        Tree::Bare(p) => masked_by(word_of(p), full_mask(w)),
+        Tree::Part(p, x) => masked_by(word_of(p), mask_of(w, x)),
+    }
+}
+
+// a or b, with its selector.
+fn laned_of(w: LaneWidth, default: Digits, t: Tree) -> LanedFound
+    ensures { λ r. ⌜ r ≡ lanedOf w default t ⌝ }
+{
+    match t {
+        Tree::Inverted(_) => LanedFound::Not,
+        Tree::Pair(_, _) => LanedFound::Not,
+        Tree::Bare(p) => laned_by(word_of(p), DigitsFound::Is(default)),
+        Tree::Part(p, x) => laned_by(word_of(p), digits_of(w, x)),
+    }
+}
+
+fn lanes_by(l: Lanes, d: MaskedFound, a: LanedFound, b: LanedFound, last: LastFound) -> LanesFound
+    ensures { λ r. ⌜ r ≡ lanesBy l d a b last ⌝ }
+{
+    let MaskedFound::Is(x) = d else {
+        return LanesFound::Wrong(0);
+    };
+    let LanedFound::Is(y) = a else {
+        return LanesFound::Wrong(1);
+    };
+    let LanedFound::Is(z) = b else {
+        return LanesFound::Wrong(2);
+    };
+    match last {
+        LastFound::Is(c) => LanesFound::Is(lanes_with(l, x, y, z, c)),
+        LastFound::Wrong(k) => LanesFound::Wrong(k),
+    }
+}
+
+fn lanes_with(l: Lanes, d: Masked, a: Laned, b: Laned, c: Word) -> Lanes
+    ensures { λ r. ⌜ r ≡ lanesWith l d a b c ⌝ }
+{
+    let width = l.width;
+    let atype = l.atype;
+    let btype = l.btype;
+    let mask = d.mask;
+    let asel = a.digits;
+    let bsel = b.digits;
+    let x = d.word;
+    let y = a.word;
+    let z = b.word;
+    Lanes {
+        width,
+        atype,
+        btype,
+        add: l.add,
+        d: x,
+        mask,
+        a: y,
+        asel,
+        b: z,
+        bsel,
+        c,
+    }
+}
+
+fn lanes_of(l: Lanes, o: Operands) -> LanesFound
+    ensures { λ r. ⌜ r ≡ lanesOf l o ⌝ }
+{
+    let n = o.n;
+    let w = l.width;
+    let d = masked_of(w, tree_at(o, 0));
+    let a = laned_of(w, default_a(w), tree_at(o, 1));
+    let b = laned_of(w, default_b(w), tree_at(o, 2));
+    lanes_by(l, d, a, b, last_by(n, bare_word(tree_at(o, 3))))
+}
+
+// ---- set, setp
+
+enum CombinationFound {
+    Is(Combination),
+    Wrong(usize),
+}
+
+enum ComparisonFound {
+    Is(Comparison),
+    Wrong(usize),
+}
+
+fn alone_by(n: usize) -> CombinationFound
+    ensures { λ r. ⌜ r ≡ aloneBy n ⌝ }
+{
+    if n == 3 {
+        return CombinationFound::Is(Combination::Alone);
+    }
+    CombinationFound::Wrong(3)
+}
+
+fn with_by(op: BoolOp, n: usize, c: ConditionFound) -> CombinationFound
+    ensures { λ r. ⌜ r ≡ withBy op n c ⌝ }
+{
+    let ConditionFound::Is(x) = c else {
+        return CombinationFound::Wrong(3);
+    };
+    if n == 4 {
+        return CombinationFound::Is(Combination::With(op, x));
+    }
+    CombinationFound::Wrong(4)
+}
+
+// c exactly when BoolOp is present.
+fn combination_of(k: Combination, n: usize, c: ConditionFound) -> CombinationFound
+    ensures { λ r. ⌜ r ≡ combinationOf k n c ⌝ }
+{
+    match k {
+        Combination::Alone => alone_by(n),
+        Combination::With(op, _) => with_by(op, n, c),
+    }
+}
+
+fn comparison_end(s: Comparison, a: Operand, b: Operand, k: CombinationFound) -> ComparisonFound
+    ensures { λ r. ⌜ r ≡ comparisonEnd s a b k ⌝ }
+{
+    let cmp = s.cmp;
+    let stype = s.stype;
+    match k {
+        CombinationFound::Is(combination) => ComparisonFound::Is(Comparison {
+            cmp,
+            combination,
+            ftz: s.ftz,
+            stype,
+            a,
+            b,
+        }),
+        CombinationFound::Wrong(i) => ComparisonFound::Wrong(i),
+    }
+}
+
+fn comparison_by(
+    s: Comparison,
+    a: OperandFound,
+    b: OperandFound,
+    k: CombinationFound,
+) -> ComparisonFound
+    ensures { λ r. ⌜ r ≡ comparisonBy s a b k ⌝ }
+{
+    let OperandFound::Is(x) = a else {
+        return ComparisonFound::Wrong(1);
+    };
+    let OperandFound::Is(y) = b else {
+        return ComparisonFound::Wrong(2);
+    };
+    comparison_end(s, x, y, k)
+}
+
+fn comparison_of(s: Comparison, o: Operands) -> ComparisonFound
+    ensures { λ r. ⌜ r ≡ comparisonOf s o ⌝ }
+{
+    let n = o.n;
+    let k = s.combination;
+    let a = bare_operand(tree_at(o, 1));
+    let b = bare_operand(tree_at(o, 2));
+    comparison_by(s, a, b, combination_of(k, n, condition_of(tree_at(o, 3))))
+}
+
+// ---- selp, slct
+
+enum ChoiceFound {
+    Is(Choice),
+    Wrong(usize),
+}
+
+fn choice_by(dtype: DataType, d: OperandFound, a: OperandFound, b: OperandFound) -> ChoiceFound
+    ensures { λ r. ⌜ r ≡ choiceBy dtype d a b ⌝ }
+{
+    let OperandFound::Is(x) = d else {
+        return ChoiceFound::Wrong(0);
+    };
+    let OperandFound::Is(y) = a else {
+        return ChoiceFound::Wrong(1);
+    };
+    let OperandFound::Is(z) = b else {
+        return ChoiceFound::Wrong(2);
+    };
+    ChoiceFound::Is(Choice {
+        dtype,
+        d: x,
+        a: y,
+        b: z,
+    })
+}
+
+fn choice_of(s: Choice, o: Operands) -> ChoiceFound
+    ensures { λ r. ⌜ r ≡ choiceOf s o ⌝ }
+{
+    let t = s.dtype;
+    let d = bare_operand(tree_at(o, 0));
+    let a = bare_operand(tree_at(o, 1));
+    choice_by(t, d, a, bare_operand(tree_at(o, 2)))
+}
+
+// ---- the instruction
+
+fn arithmetic_from(op: Arith, dtype: VideoType, sat: bool, s: ScalarFound) -> Filled
+    ensures { λ r. ⌜ r ≡ arithmeticFrom op dtype sat s ⌝ }
+{
+    match s {
+        ScalarFound::Is(scalar) => Filled::Full(Instruction::Arithmetic {
+            op,
+            dtype,
+            sat,
+            scalar,
+        }),
+        ScalarFound::Wrong(k) => Filled::Wrong(k),
+    }
+}
+
+fn vset_from(cmp: Cmp6, s: ScalarFound) -> Filled
+    ensures { λ r. ⌜ r ≡ vsetFrom cmp s ⌝ }
+{
+    match s {
+        ScalarFound::Is(scalar) => Filled::Full(Instruction::Vset { cmp, scalar }),
+        ScalarFound::Wrong(k) => Filled::Wrong(k),
+    }
+}
+
+fn lanes_from(cmp: Cmp6, l: LanesFound) -> Filled
+    ensures { λ r. ⌜ r ≡ lanesFrom cmp l ⌝ }
+{
+    match l {
+        LanesFound::Is(lanes) => Filled::Full(Instruction::VsetLanes { cmp, lanes }),
+        LanesFound::Wrong(k) => Filled::Wrong(k),
+    }
+}
+
+fn set_from(dtype: SetType, d: WordFound, s: ComparisonFound) -> Filled
+    ensures { λ r. ⌜ r ≡ setFrom dtype d s ⌝ }
+{
+    let WordFound::Is(w) = d else {
+        return Filled::Wrong(0);
+    };
+    match s {
+        ComparisonFound::Is(comparison) => Filled::Full(Instruction::Set {
+            dtype,
+            d: w,
+            comparison,
+        }),
+        ComparisonFound::Wrong(k) => Filled::Wrong(k),
+    }
+}
+
+fn setp_from(d: DestinationFound, s: ComparisonFound) -> Filled
+    ensures { λ r. ⌜ r ≡ setpFrom d s ⌝ }
+{
+    let DestinationFound::Is(p) = d else {
+        return Filled::Wrong(0);
+    };
+    match s {
+        ComparisonFound::Is(comparison) => Filled::Full(Instruction::Setp { d: p, comparison }),
+        ComparisonFound::Wrong(k) => Filled::Wrong(k),
+    }
+}
+
+fn selp_by(s: Choice, n: usize, c: PredFound) -> Filled
+    ensures { λ r. ⌜ r ≡ selpBy s n c ⌝ }
+{
+    let PredFound::Is(p) = c else {
+        return Filled::Wrong(3);
+    };
+    if n == 4 {
+        return Filled::Full(Instruction::Selp { choice: s, c: p });
+    }
+    Filled::Wrong(4)
+}
+
+fn selp_from(s: ChoiceFound, n: usize, c: PredFound) -> Filled
+    ensures { λ r. ⌜ r ≡ selpFrom s n c ⌝ }
+{
+    match s {
+        ChoiceFound::Is(choice) => selp_by(choice, n, c),
+        ChoiceFound::Wrong(k) => Filled::Wrong(k),
+    }
+}
+
+fn slct_by(ctype: SlctType, s: Choice, last: LastFound) -> Filled
+    ensures { λ r. ⌜ r ≡ slctBy ctype s last ⌝ }
+{
+    match last {
+        LastFound::Is(c) => Filled::Full(Instruction::Slct {
+            ctype,
+            choice: s,
+            c,
+        }),
+        LastFound::Wrong(k) => Filled::Wrong(k),
+    }
+}
+
+fn slct_from(ctype: SlctType, s: ChoiceFound, last: LastFound) -> Filled
+    ensures { λ r. ⌜ r ≡ slctFrom ctype s last ⌝ }
+{
+    match s {
+        ChoiceFound::Is(choice) => slct_by(ctype, choice, last),
+        ChoiceFound::Wrong(k) => Filled::Wrong(k),
+    }
+}
+
+pub fn fill_in(i: Instruction, operands: Operands) -> Filled
+    ensures { λ r. ⌜ r ≡ filledOf i operands ⌝ }
+{
+    let n = operands.n;
+    let first = tree_at(operands, 0);
+    let last = tree_at(operands, 3);
+    match i {
+        Instruction::Arithmetic {
+            op,
+            dtype,
+            sat,
+            scalar,
+        } => arithmetic_from(op, dtype, sat, scalar_of(scalar, operands)),
+        Instruction::Vset { cmp, scalar } => vset_from(cmp, scalar_of(scalar, operands)),
+        Instruction::VsetLanes { cmp, lanes } => lanes_from(cmp, lanes_of(lanes, operands)),
+        Instruction::Set {
+            dtype,
+            comparison,
+            ..
+        } => set_from(dtype, bare_word(first), comparison_of(comparison, operands)),
+        Instruction::Setp { comparison, .. } => setp_from(
+            destination_of(first),
+            comparison_of(comparison, operands),
+        ),
+        Instruction::Selp { choice, .. } => selp_from(
+            choice_of(choice, operands),
+            n,
+            bare_pred(last),
+        ),
+        Instruction::Slct { ctype, choice, .. } => slct_from(
+            ctype,
+            choice_of(choice, operands),
+            last_by(n, bare_word(last)),
+        ),
+    }
+}

@@ -1,0 +1,498 @@
+-- What is read is a row of the table: its names are the head's, and nothing is left over.
+use Prim.Native.Nat.{ℕ, zero, suc, _+_, _<_}
+use native.Mathlib.Omega.{arith}
+use native.Mathlib.Numerals.{add-one}
+use mathlib.Core.Path.{_≡_, refl, sym, ap, _∙_, subst}
+use mathlib.Core.Bool.{Bool, true, false, not, _&&_, cond}
+use mathlib.Core.List.{List, [], _∷_, _++_, map}
+use borrow.Author.Tests.{eqb-true, ltb-true}
+use lib.Dec.{eqb, ltb}
+use lib.ListN.{length, getD, take, drop, replicate, drop-of-length-le}
+use Rattle.base.specs.Pack.{codeOf}
+use Rattle.base.specs.Text.{bytes}
+use Rattle.record.specs.declared.VideoType.{VideoType}
+use Rattle.record.specs.declared.SlctType
+use Rattle.record.specs.declared.SlctType.{SlctType}
+use Rattle.record.specs.declared.DataType.{DataType}
+use Rattle.record.specs.declared.CmpOp.{CmpOp}
+use Rattle.record.specs.declared.Cmp6.{Cmp6}
+use Rattle.record.specs.declared.Arith.{Arith}
+use Rattle.record.specs.declared.Arith.the-variants.{Vadd, Vsub, Vabsdiff, Vmin, Vmax}
+use Rattle.record.specs.declared.LaneWidth.{LaneWidth}
+use Rattle.record.specs.declared.LaneWidth.the-variants.{Half, Byte}
+use Rattle.record.specs.declared.Combination.{Combination}
+use Rattle.record.specs.declared.Combination.the-variants.{Alone, With}
+use Rattle.record.specs.declared.Destination.the-variants.{One}
+use Rattle.record.specs.declared.Instruction.{Instruction}
+use Rattle.record.specs.declared.Instruction.the-variants.{Arithmetic, Vset, VsetLanes, Set, Setp, Selp, Slct}
+use Rattle.rules.specs.Shape.{Name}
+use Rattle.rules.specs.Names.{videoTypeName, setTypeName, typeName, sixName, cmpName, boolName, op2Name, when, formOp2, combinationNames, headNames}
+use Rattle.rules.specs.Grammar.{GoodName, GoodNames}
+use Rattle.rules.specs.Grammar.GoodNames.{none, more}
+use Rattle.rules.specs.Reading.{opcodes, Listed}
+use Rattle.rules.specs.Reading.Listed.{here, later}
+use Rattle.tree.specs.Seen.{namesKept, seenHead}
+use Rattle.tree.specs.Blank.{noWord, noPred, noCondition, blankForm, blankCombination, blankChoice, blank}
+use Rattle.tree.specs.CodeLaws.{CodeOf, isShortName, short-name, code-positive, code-known}
+use Rattle.heads.specs.declared.Opcode
+use Rattle.heads.specs.declared.Opcode.{Opcode}
+use Rattle.heads.specs.declared.OpcodeName
+use Rattle.heads.specs.declared.OpcodeName.{OpcodeName}
+use Rattle.heads.specs.declared.VideoName
+use Rattle.heads.specs.declared.VideoName.{VideoName}
+use Rattle.heads.specs.declared.SetName
+use Rattle.heads.specs.declared.SetName.{SetName}
+use Rattle.heads.specs.declared.TypeName
+use Rattle.heads.specs.declared.TypeName.{TypeName}
+use Rattle.heads.specs.declared.SlctName
+use Rattle.heads.specs.declared.SlctName.{SlctName}
+use Rattle.heads.specs.declared.SixName
+use Rattle.heads.specs.declared.SixName.{SixName}
+use Rattle.heads.specs.declared.CmpName
+use Rattle.heads.specs.declared.CmpName.{CmpName}
+use Rattle.heads.specs.declared.BoolName
+use Rattle.heads.specs.declared.BoolName.{BoolName}
+use Rattle.heads.specs.declared.Op2Name
+use Rattle.heads.specs.declared.Op2Name.{Op2Name}
+use Rattle.heads.specs.declared.Read
+use Rattle.heads.specs.declared.Read.{Read}
+use Rattle.heads.specs.declared.Sides
+use Rattle.heads.specs.declared.Sides.{Sides}
+use Rattle.heads.specs.declared.Compared
+use Rattle.heads.specs.declared.Compared.{Compared}
+use Rattle.heads.specs.declared.Test.{Test}
+use Rattle.heads.specs.declared.Tested
+use Rattle.heads.specs.declared.Tested.{Tested}
+use Rattle.heads.specs.declared.Found
+use Rattle.heads.specs.declared.Found.{Found}
+use Rattle.heads.specs.Tables.{opcodeOf, videoOf, setTypeOf, typeOf, slctTypeOf, sixOf, cmpOf, boolOf, op2Of, satCode, ftzCode, addCode, s32Code, f32Code}
+use Rattle.heads.specs.Rows.{nameAt, past, wholeOf, scalarOf, lanesOf, comparisonOf, sidesBy, sidesAt, comparedBy, comparedOf, endingBy, endingAt, satEnd, arithmeticBy, arithmeticOf, vsetBy, vsetOf, lanesBy, lanesRow, testAt, testedBy, testedOf, setBy, setAt, setFrom, setOf, setpBy, setpAt, setpFrom, setpOf, selpBy, selpOf, slctBy, slctAt, slctOf, readOf, foundOf, rowBy, rowOf}
+use Rattle.heads.specs.NameLaws.{opcodeName, opcode-complete, opcode-sound, video-sound, set-type-sound, type-sound, six-sound, cmp-sound, bool-sound, op2-sound, sat-code, ftz-code, add-code, s32-code, f32-code}
+
+-- ==== the names that a head keeps
+
+zeros-at : (k m i : ℕ) → _≡_ {A = ℕ} (getD (take k (replicate m 0)) i 0) 0
+zeros-at zero m i = refl
+zeros-at (suc k) zero i = refl
+zeros-at (suc k) (suc m) zero = refl
+zeros-at (suc k) (suc m) (suc i) = zeros-at k m i
+
+kept-at : (k m i : ℕ) (l : List ℕ) → i < k → getD (take k (l ++ replicate m 0)) i 0 ≡ getD l i 0
+kept-at zero m i l h = absurd (omega arith)
+kept-at (suc k) m i [] h = zeros-at (suc k) m i
+kept-at (suc k) m zero (x ∷ l) h = refl
+kept-at (suc k) m (suc i) (x ∷ l) h = kept-at k m i l (omega arith)
+
+-- 0 is the number of no short name
+no-name : {A : Type 0} (w : Name) → CodeOf 0 w → A
+no-name w c =
+    let s = short-name w (c .short) in
+    absurd (omega (arith, c .code, code-positive w (s .0) (s .1)))
+
+at-known : {ns : List Name} → GoodNames ns → (i : ℕ) (w : Name) → CodeOf (getD (map codeOf ns) i 0) w → drop i ns ≡ w ∷ drop (suc i) ns
+at-known none i w c = no-name w c
+at-known (more {n = n} {ns = ns} g gs) zero w c =
+    let s = short-name w (c .short) in
+    ap (λ (v : Name). v ∷ ns) (code-known n w g (s .0) (s .1) (c .code))
+at-known (more g gs) (suc i) w c = at-known gs i w c
+
+never : {A : Type 0} (k : ℕ) (i : Instruction) → Read.Wrong k ≡ Read.Is i → A
+never k i e = let z : _≡_ {A = ℕ} 0 1 = cc in absurd (omega arith)
+
+count : (ns : List Name) → seenHead ns .n ≡ length ns
+unfolding seenHead
+count ns = refl
+
+-- the names from one place on are those of the rest of the row, and the operands are blank
+pub record RowIs (ns : List Name) (op : Opcode) (i : Instruction) : Type 0 where
+  pub names : opcodeName op ∷ drop 1 ns ≡ headNames i
+  pub blank : blank i ≡ i
+
+-- the names before the types of set and setp
+pub record TestIs (ns : List Name) (t : Test) : Type 0 where
+  pub names : drop 1 ns ≡ cmpName (t .cmp) ∷ (combinationNames (t .combination) ++ when (t .ftz) (bytes "ftz") ++ drop (t .next) ns)
+  pub blank : blankCombination (t .combination) ≡ t .combination
+
+-- s32, or f32 after what was read of ftz
+data SlctIs (x : ℕ) : Bool → SlctType → Type 0 where
+  s32 : CodeOf x (bytes "s32") → SlctIs x false SlctType.S32
+  f32 : {ftz : Bool} → CodeOf x (bytes "f32") → SlctIs x ftz (SlctType.F32 ftz)
+
+slct-type-sound : (ftz : Bool) (x : ℕ) (c : SlctType) → slctTypeOf ftz x ≡ SlctName.Is c → SlctIs x ftz c
+unfolding slctTypeOf
+slct-type-sound ftz x c e = go ftz (eqb x f32Code) refl (eqb x s32Code) refl e
+  where
+    go : (ftz s : Bool) → eqb x f32Code ≡ s → (t : Bool) → eqb x s32Code ≡ t
+        → cond s (SlctName.Is (SlctType.F32 ftz)) (cond (not ftz && t) (SlctName.Is SlctType.S32) SlctName.Not) ≡ SlctName.Is c → SlctIs x ftz c
+    go ftz true p t q e = let z : SlctType.F32 ftz ≡ c = cc in subst (SlctIs x ftz) z (f32 (record { code = eqb-true x f32Code p ∙ sym f32-code; short = refl }))
+    go false false p true q e = let z : SlctType.S32 ≡ c = cc in subst (SlctIs x false) z (s32 (record { code = eqb-true x s32Code q ∙ sym s32-code; short = refl }))
+    go true false p t q e = let z : _≡_ {A = ℕ} 0 1 = cc in absurd (omega arith)
+    go false false p false q e = let z : _≡_ {A = ℕ} 0 1 = cc in absurd (omega arith)
+
+module _ (ns : List Name) (good : GoodNames ns) where
+  -- a number of a table stands for the name at its place
+  name-at : (i : ℕ) (w : Name) → CodeOf (nameAt (seenHead ns) i) w → drop i ns ≡ w ∷ drop (i + 1) ns
+  unfolding nameAt seenHead
+  name-at i w c = rw add-one (go (ltb i namesKept) refl c)
+    where
+      go : (t : Bool) → ltb i namesKept ≡ t → CodeOf (cond t (getD (seenHead ns .at) i 0) 0) w → drop i ns ≡ w ∷ drop (suc i) ns
+      go true e c = at-known good i w (subst (λ (x : ℕ). CodeOf x w) (kept-at namesKept namesKept i (map codeOf ns) (ltb-true i namesKept e)) c)
+      go false e c = no-name w c
+
+  word-at : (i x : ℕ) (w : Name) → codeOf w ≡ x → isShortName w ≡ true → eqb (nameAt (seenHead ns) i) x ≡ true → drop i ns ≡ w ∷ drop (i + 1) ns
+  word-at i x w e s h = name-at i w (record { code = eqb-true (nameAt (seenHead ns) i) x h ∙ sym e; short = s })
+
+  whole-sound : (end : ℕ) (j i : Instruction) → wholeOf (seenHead ns .n) end j ≡ Read.Is i → (length ns ≡ end) × (j ≡ i)
+  unfolding wholeOf
+  whole-sound end j i e = go (eqb (seenHead ns .n) end) refl e
+    where
+      go : (t : Bool) → eqb (seenHead ns .n) end ≡ t → cond t (Read.Is j) (Read.Wrong end) ≡ Read.Is i → (length ns ≡ end) × (j ≡ i)
+      go true p e = (sym (count ns) ∙ eqb-true (seenHead ns .n) end p, cc)
+      go false p e = never end i e
+
+  ended : (i : ℕ) → length ns ≡ i → drop i ns ≡ []
+  ended i e = drop-of-length-le ns {i = i} (omega arith)
+
+  -- ==== scalar arithmetic, vset, vset2, vset4
+
+  sides-sound : (i : ℕ) (a b : VideoType) → sidesAt (seenHead ns) i ≡ Sides.Are a b → drop i ns ≡ videoTypeName a ∷ videoTypeName b ∷ drop (i + 1 + 1) ns
+  unfolding sidesAt sidesBy
+  sides-sound i a b e = go (videoOf (nameAt (seenHead ns) i)) refl (videoOf (nameAt (seenHead ns) (i + 1))) refl e
+    where
+      go : (x : VideoName) → videoOf (nameAt (seenHead ns) i) ≡ x → (y : VideoName) → videoOf (nameAt (seenHead ns) (i + 1)) ≡ y
+          → sidesBy i x y ≡ Sides.Are a b → drop i ns ≡ videoTypeName a ∷ videoTypeName b ∷ drop (i + 1 + 1) ns
+      go VideoName.Not p y q e = let z : _≡_ {A = ℕ} 0 1 = cc in absurd (omega arith)
+      go (VideoName.Is c) p VideoName.Not q e = let z : _≡_ {A = ℕ} 0 1 = cc in absurd (omega arith)
+      go (VideoName.Is c) p (VideoName.Is d) q e =
+          let u : c ≡ a = cc in
+          let v : d ≡ b = cc in
+          rw (← u, ← v, name-at i (videoTypeName c) (video-sound (nameAt (seenHead ns) i) c p), name-at (i + 1) (videoTypeName d) (video-sound (nameAt (seenHead ns) (i + 1)) d q))
+
+  compared-sound : (a b : VideoType) (c : Cmp6) → comparedOf (seenHead ns) ≡ Compared.Are a b c → drop 1 ns ≡ videoTypeName a ∷ videoTypeName b ∷ sixName c ∷ drop 4 ns
+  unfolding comparedOf comparedBy
+  compared-sound a b c e = go (sidesAt (seenHead ns) 1) refl (sixOf (nameAt (seenHead ns) 3)) refl e
+    where
+      go : (x : Sides) → sidesAt (seenHead ns) 1 ≡ x → (y : SixName) → sixOf (nameAt (seenHead ns) 3) ≡ y
+          → comparedBy x y ≡ Compared.Are a b c → drop 1 ns ≡ videoTypeName a ∷ videoTypeName b ∷ sixName c ∷ drop 4 ns
+      go (Sides.Wrong k) p y q e = let z : _≡_ {A = ℕ} 0 1 = cc in absurd (omega arith)
+      go (Sides.Are f g) p SixName.Not q e = let z : _≡_ {A = ℕ} 0 1 = cc in absurd (omega arith)
+      go (Sides.Are f g) p (SixName.Is d) q e =
+          let u : f ≡ a = cc in
+          let v : g ≡ b = cc in
+          let w : d ≡ c = cc in
+          rw (← u, ← v, ← w, sides-sound 1 f g p, name-at 3 (sixName d) (six-sound (nameAt (seenHead ns) 3) d q))
+
+  -- {OP2}, at the end of the row
+  ending-sound : (i : ℕ) → length ns ≡ endingAt (seenHead ns) i .end
+      → (drop i ns ≡ formOp2 (endingAt (seenHead ns) i .form)) × (blankForm (endingAt (seenHead ns) i .form) ≡ endingAt (seenHead ns) i .form)
+  unfolding endingAt endingBy
+  ending-sound i e = go (op2Of (nameAt (seenHead ns) i)) refl e
+    where
+      go : (x : Op2Name) → op2Of (nameAt (seenHead ns) i) ≡ x → length ns ≡ endingBy i x .end
+          → (drop i ns ≡ formOp2 (endingBy i x .form)) × (blankForm (endingBy i x .form) ≡ endingBy i x .form)
+      go (Op2Name.Is op) p e = (rw (name-at i (op2Name op) (op2-sound (nameAt (seenHead ns) i) op p), ended (i + 1) e), refl)
+      go Op2Name.Not p e = (ended i e, refl)
+
+  vset-sound : (i : Instruction) → vsetOf (seenHead ns) ≡ Read.Is i → RowIs ns Opcode.Vset i
+  unfolding vsetOf vsetBy
+  vset-sound i e = go (comparedOf (seenHead ns)) refl e
+    where
+      go : (x : Compared) → comparedOf (seenHead ns) ≡ x → vsetBy (seenHead ns .n) x (endingAt (seenHead ns) 4) ≡ Read.Is i → RowIs ns Opcode.Vset i
+      go (Compared.Wrong k) p e = never k i e
+      go (Compared.Are a b c) p e =
+          let w = whole-sound (endingAt (seenHead ns) 4 .end) (Vset c (scalarOf a b (endingAt (seenHead ns) 4 .form))) i e in
+          let f = ending-sound 4 (w .0) in
+          subst (RowIs ns Opcode.Vset) (w .1) (record { names = rw (compared-sound a b c p, f .0); blank = rw (f .1) })
+
+  lanes-sound : (l : LaneWidth) (i : Instruction) → lanesRow l (seenHead ns) ≡ Read.Is i → RowIs ns (Opcode.Lanes l) i
+  unfolding lanesRow lanesBy
+  lanes-sound l i e = go (comparedOf (seenHead ns)) refl (eqb (nameAt (seenHead ns) 4) addCode) refl e
+    where
+      go : (x : Compared) → comparedOf (seenHead ns) ≡ x → (add : Bool) → eqb (nameAt (seenHead ns) 4) addCode ≡ add
+          → lanesBy (seenHead ns .n) l x add ≡ Read.Is i → RowIs ns (Opcode.Lanes l) i
+      go (Compared.Wrong k) p add q e = never k i e
+      go (Compared.Are a b c) p true q e =
+          let w = whole-sound 5 (VsetLanes c (lanesOf l a b true)) i e in
+          subst (RowIs ns (Opcode.Lanes l)) (w .1) (record {
+            names = rw (compared-sound a b c p, word-at 4 addCode (bytes "add") add-code refl q, ended 5 (w .0));
+            blank = refl;
+          })
+      go (Compared.Are a b c) p false q e =
+          let w = whole-sound 4 (VsetLanes c (lanesOf l a b false)) i e in
+          subst (RowIs ns (Opcode.Lanes l)) (w .1) (record { names = rw (compared-sound a b c p, ended 4 (w .0)); blank = refl })
+
+  arithmetic-sound : (op : Arith) (i : Instruction) → arithmeticOf op (seenHead ns) ≡ Read.Is i → RowIs ns (Opcode.Scalar op) i
+  unfolding arithmeticOf arithmeticBy
+  arithmetic-sound op i e = go (eqb (nameAt (seenHead ns) 4) satCode) refl (videoOf (nameAt (seenHead ns) 1)) refl (sidesAt (seenHead ns) 2) refl e
+    where
+      go : (sat : Bool) → eqb (nameAt (seenHead ns) 4) satCode ≡ sat → (x : VideoName) → videoOf (nameAt (seenHead ns) 1) ≡ x
+          → (y : Sides) → sidesAt (seenHead ns) 2 ≡ y
+          → arithmeticBy (seenHead ns .n) op x y sat (endingAt (seenHead ns) (satEnd sat)) ≡ Read.Is i → RowIs ns (Opcode.Scalar op) i
+      go sat o VideoName.Not p y q e = never 1 i e
+      go sat o (VideoName.Is d) p (Sides.Wrong k) q e = never k i e
+      go true o (VideoName.Is d) p (Sides.Are a b) q e =
+          let w = whole-sound (endingAt (seenHead ns) 5 .end) (Arithmetic op d true (scalarOf a b (endingAt (seenHead ns) 5 .form))) i e in
+          let f = ending-sound 5 (w .0) in
+          subst (RowIs ns (Opcode.Scalar op)) (w .1) (record {
+            names = rw (name-at 1 (videoTypeName d) (video-sound (nameAt (seenHead ns) 1) d p), sides-sound 2 a b q, word-at 4 satCode (bytes "sat") sat-code refl o, f .0);
+            blank = rw (f .1);
+          })
+      go false o (VideoName.Is d) p (Sides.Are a b) q e =
+          let w = whole-sound (endingAt (seenHead ns) 4 .end) (Arithmetic op d false (scalarOf a b (endingAt (seenHead ns) 4 .form))) i e in
+          let f = ending-sound 4 (w .0) in
+          subst (RowIs ns (Opcode.Scalar op)) (w .1) (record {
+            names = rw (name-at 1 (videoTypeName d) (video-sound (nameAt (seenHead ns) 1) d p), sides-sound 2 a b q, f .0);
+            blank = rw (f .1);
+          })
+
+  -- ==== set, setp
+
+  test-sound : (c : CmpOp) (b : Combination) (i : ℕ)
+      → drop i ns ≡ when (testAt (seenHead ns) c b i .ftz) (bytes "ftz") ++ drop (testAt (seenHead ns) c b i .next) ns
+  unfolding testAt
+  test-sound c b i = go (eqb (nameAt (seenHead ns) i) ftzCode) refl
+    where
+      go : (ftz : Bool) → eqb (nameAt (seenHead ns) i) ftzCode ≡ ftz → drop i ns ≡ when ftz (bytes "ftz") ++ drop (past ftz i) ns
+      go true e = word-at i ftzCode (bytes "ftz") ftz-code refl e
+      go false e = refl
+
+  tested-sound : (t : Test) → testedOf (seenHead ns) ≡ Tested.Is t → TestIs ns t
+  unfolding testedOf testedBy testAt
+  tested-sound t e = go (cmpOf (nameAt (seenHead ns) 1)) refl (boolOf (nameAt (seenHead ns) 2)) refl e
+    where
+      go : (x : CmpName) → cmpOf (nameAt (seenHead ns) 1) ≡ x → (y : BoolName) → boolOf (nameAt (seenHead ns) 2) ≡ y
+          → testedBy (seenHead ns) x y ≡ Tested.Is t → TestIs ns t
+      go CmpName.Not p y q e = let z : _≡_ {A = ℕ} 0 1 = cc in absurd (omega arith)
+      go (CmpName.Is c) p (BoolName.Is op) q e =
+          let z : testAt (seenHead ns) c (With op noCondition) 3 ≡ t = cc in
+          subst (TestIs ns) z (record {
+            names = rw (name-at 1 (cmpName c) (cmp-sound (nameAt (seenHead ns) 1) c p), name-at 2 (boolName op) (bool-sound (nameAt (seenHead ns) 2) op q))
+                (ap (λ (l : List Name). cmpName c ∷ boolName op ∷ l) (test-sound c (With op noCondition) 3));
+            blank = refl;
+          })
+      go (CmpName.Is c) p BoolName.Not q e =
+          let z : testAt (seenHead ns) c Alone 2 ≡ t = cc in
+          subst (TestIs ns) z (record {
+            names = rw (name-at 1 (cmpName c) (cmp-sound (nameAt (seenHead ns) 1) c p)) (ap (λ (l : List Name). cmpName c ∷ l) (test-sound c Alone 2));
+            blank = refl;
+          })
+
+  set-sound : (i : Instruction) → setOf (seenHead ns) ≡ Read.Is i → RowIs ns Opcode.Set i
+  unfolding setOf setFrom setAt setBy
+  set-sound i e = go (testedOf (seenHead ns)) refl e
+    where
+      go : (x : Tested) → testedOf (seenHead ns) ≡ x → setFrom (seenHead ns) x ≡ Read.Is i → RowIs ns Opcode.Set i
+      go Tested.Not p e = never 1 i e
+      go (Tested.Is t) p e = types (setTypeOf (nameAt (seenHead ns) (t .next))) refl (typeOf (nameAt (seenHead ns) (t .next + 1))) refl e
+        where
+          types : (x : SetName) → setTypeOf (nameAt (seenHead ns) (t .next)) ≡ x → (y : TypeName) → typeOf (nameAt (seenHead ns) (t .next + 1)) ≡ y
+              → setBy (seenHead ns .n) t x y ≡ Read.Is i → RowIs ns Opcode.Set i
+          types SetName.Not q y r e = never (t .next) i e
+          types (SetName.Is d) q TypeName.Not r e = never (t .next + 1) i e
+          types (SetName.Is d) q (TypeName.Is s) r e =
+              let w = whole-sound (t .next + 2) (Set d noWord (comparisonOf t s)) i e in
+              let h = tested-sound t p in
+              subst (RowIs ns Opcode.Set) (w .1) (record {
+                names = rw (
+                  h .names,
+                  name-at (t .next) (setTypeName d) (set-type-sound (nameAt (seenHead ns) (t .next)) d q),
+                  name-at (t .next + 1) (typeName s) (type-sound (nameAt (seenHead ns) (t .next + 1)) s r),
+                  ended (t .next + 1 + 1) (omega (arith, w .0)),
+                );
+                blank = rw (h .blank);
+              })
+
+  setp-sound : (i : Instruction) → setpOf (seenHead ns) ≡ Read.Is i → RowIs ns Opcode.Setp i
+  unfolding setpOf setpFrom setpAt setpBy
+  setp-sound i e = go (testedOf (seenHead ns)) refl e
+    where
+      go : (x : Tested) → testedOf (seenHead ns) ≡ x → setpFrom (seenHead ns) x ≡ Read.Is i → RowIs ns Opcode.Setp i
+      go Tested.Not p e = never 1 i e
+      go (Tested.Is t) p e = types (typeOf (nameAt (seenHead ns) (t .next))) refl e
+        where
+          types : (x : TypeName) → typeOf (nameAt (seenHead ns) (t .next)) ≡ x → setpBy (seenHead ns .n) t x ≡ Read.Is i → RowIs ns Opcode.Setp i
+          types TypeName.Not q e = never (t .next) i e
+          types (TypeName.Is s) q e =
+              let w = whole-sound (t .next + 1) (Setp (One noPred) (comparisonOf t s)) i e in
+              let h = tested-sound t p in
+              subst (RowIs ns Opcode.Setp) (w .1) (record {
+                names = rw (h .names, name-at (t .next) (typeName s) (type-sound (nameAt (seenHead ns) (t .next)) s q), ended (t .next + 1) (w .0));
+                blank = rw (h .blank);
+              })
+
+  -- ==== selp, slct
+
+  selp-sound : (i : Instruction) → selpOf (seenHead ns) ≡ Read.Is i → RowIs ns Opcode.Selp i
+  unfolding selpOf selpBy
+  selp-sound i e = go (typeOf (nameAt (seenHead ns) 1)) refl e
+    where
+      go : (x : TypeName) → typeOf (nameAt (seenHead ns) 1) ≡ x → selpBy (seenHead ns .n) x ≡ Read.Is i → RowIs ns Opcode.Selp i
+      go TypeName.Not p e = never 1 i e
+      go (TypeName.Is t) p e =
+          let w = whole-sound 2 (Selp (blankChoice t) noPred) i e in
+          subst (RowIs ns Opcode.Selp) (w .1) (record {
+            names = rw (name-at 1 (typeName t) (type-sound (nameAt (seenHead ns) 1) t p), ended 2 (w .0));
+            blank = refl;
+          })
+
+  slct-row : (ftz : Bool) (k : ℕ) (t : DataType) (c : SlctType) → drop 1 ns ≡ when ftz (bytes "ftz") ++ drop k ns → drop k ns ≡ typeName t ∷ drop (k + 1) ns
+      → SlctIs (nameAt (seenHead ns) (k + 1)) ftz c → length ns ≡ k + 2 → RowIs ns Opcode.Slct (Slct c (blankChoice t) noWord)
+  slct-row ftz k t c p q (s32 h) n = record {
+    names = rw (p, q, name-at (k + 1) (bytes "s32") h, ended (k + 1 + 1) (omega arith));
+    blank = refl;
+  }
+  slct-row ftz k t c p q (f32 h) n = record {
+    names = rw (p, q, name-at (k + 1) (bytes "f32") h, ended (k + 1 + 1) (omega arith));
+    blank = refl;
+  }
+
+  slct-at-sound : (ftz : Bool) (k : ℕ) (i : Instruction) → drop 1 ns ≡ when ftz (bytes "ftz") ++ drop k ns → slctAt (seenHead ns) ftz k ≡ Read.Is i → RowIs ns Opcode.Slct i
+  unfolding slctAt slctBy
+  slct-at-sound ftz k i p e = go (typeOf (nameAt (seenHead ns) k)) refl (slctTypeOf ftz (nameAt (seenHead ns) (k + 1))) refl e
+    where
+      go : (x : TypeName) → typeOf (nameAt (seenHead ns) k) ≡ x → (y : SlctName) → slctTypeOf ftz (nameAt (seenHead ns) (k + 1)) ≡ y
+          → slctBy (seenHead ns .n) k x y ≡ Read.Is i → RowIs ns Opcode.Slct i
+      go TypeName.Not q y r e = never k i e
+      go (TypeName.Is t) q SlctName.Not r e = never (k + 1) i e
+      go (TypeName.Is t) q (SlctName.Is c) r e =
+          let w = whole-sound (k + 2) (Slct c (blankChoice t) noWord) i e in
+          subst (RowIs ns Opcode.Slct) (w .1)
+          (slct-row ftz k t c p (name-at k (typeName t) (type-sound (nameAt (seenHead ns) k) t q)) (slct-type-sound ftz (nameAt (seenHead ns) (k + 1)) c r) (w .0))
+
+  slct-sound : (i : Instruction) → slctOf (seenHead ns) ≡ Read.Is i → RowIs ns Opcode.Slct i
+  unfolding slctOf
+  slct-sound i e = go (eqb (nameAt (seenHead ns) 1) ftzCode) refl e
+    where
+      go : (ftz : Bool) → eqb (nameAt (seenHead ns) 1) ftzCode ≡ ftz → slctAt (seenHead ns) ftz (cond ftz 2 1) ≡ Read.Is i → RowIs ns Opcode.Slct i
+      go true p e = slct-at-sound true 2 i (word-at 1 ftzCode (bytes "ftz") ftz-code refl p) e
+      go false p e = slct-at-sound false 1 i refl e
+
+  -- ==== the table
+
+  read-sound : (op : Opcode) (i : Instruction) → readOf op (seenHead ns) ≡ Read.Is i → RowIs ns op i
+  unfolding readOf
+  read-sound (Opcode.Scalar op) i e = arithmetic-sound op i e
+  read-sound Opcode.Vset i e = vset-sound i e
+  read-sound (Opcode.Lanes w) i e = lanes-sound w i e
+  read-sound Opcode.Set i e = set-sound i e
+  read-sound Opcode.Setp i e = setp-sound i e
+  read-sound Opcode.Selp i e = selp-sound i e
+  read-sound Opcode.Slct i e = slct-sound i e
+
+pub row-sound : (ns : List Name) (i : Instruction) → GoodNames ns → rowOf (seenHead ns) ≡ Found.Row i → (ns ≡ headNames i) × (blank i ≡ i)
+unfolding rowOf rowBy foundOf
+row-sound ns i good e = go (opcodeOf (nameAt (seenHead ns) 0)) refl e
+  where
+    go : (x : OpcodeName) → opcodeOf (nameAt (seenHead ns) 0) ≡ x → rowBy x (seenHead ns) ≡ Found.Row i → (ns ≡ headNames i) × (blank i ≡ i)
+    go OpcodeName.Not p e = let z : _≡_ {A = ℕ} 0 1 = cc in absurd (omega arith)
+    go (OpcodeName.Is op) p e = read (readOf op (seenHead ns)) refl e
+      where
+        read : (r : Read) → readOf op (seenHead ns) ≡ r → foundOf r ≡ Found.Row i → (ns ≡ headNames i) × (blank i ≡ i)
+        read (Read.Wrong k) q e = let z : _≡_ {A = ℕ} 0 1 = cc in absurd (omega arith)
+        read (Read.Is j) q e =
+            let z : j ≡ i = cc in
+            let h = read-sound ns good op i (q ∙ ap Read.Is z) in
+            (name-at ns good 0 (opcodeName op) (opcode-sound (nameAt (seenHead ns) 0) op p) ∙ h .names, h .blank)
+
+-- ==== opcodes
+
+-- what holds of every name of a list holds of a listed one
+module _ (P : Name → Type 0) where
+  abbrev Every : List Name → Type 0
+  Every [] = Unit {0}
+  Every (m ∷ ns) = P m × Every ns
+
+  of-listed : {n : Name} {ns : List Name} → Every ns → Listed n ns → P n
+  of-listed h (here e) = subst P (sym e) (h .0)
+  of-listed h (later l) = of-listed (h .1) l
+
+abbrev Opens : Name → Type 0
+Opens n = (op : Opcode) × (n ≡ opcodeName op)
+
+listed-opens : (n : Name) → Listed n opcodes → Opens n
+listed-opens n l =
+    of-listed Opens (
+      (Opcode.Scalar Vadd, refl),
+      (
+        (Opcode.Scalar Vsub, refl),
+        (
+          (Opcode.Scalar Vabsdiff, refl),
+          (
+            (Opcode.Scalar Vmin, refl),
+            (
+              (Opcode.Scalar Vmax, refl),
+              (
+                (Opcode.Vset, refl),
+                (
+                  (Opcode.Lanes Half, refl),
+                  (
+                    (Opcode.Lanes Byte, refl),
+                    (
+                      (Opcode.Set, refl),
+                      (
+                        (Opcode.Setp, refl),
+                        (
+                          (Opcode.Selp, refl),
+                          (
+                            (Opcode.Slct, refl),
+                            tt,
+                          ),
+                        ),
+                      ),
+                    ),
+                  ),
+                ),
+              ),
+            ),
+          ),
+        ),
+      ),
+    )
+    l
+
+opcode-listed : (op : Opcode) → Listed (opcodeName op) opcodes
+opcode-listed (Opcode.Scalar Vadd) = here refl
+opcode-listed (Opcode.Scalar Vsub) = later (here refl)
+opcode-listed (Opcode.Scalar Vabsdiff) = later (later (here refl))
+opcode-listed (Opcode.Scalar Vmin) = later (later (later (here refl)))
+opcode-listed (Opcode.Scalar Vmax) = later (later (later (later (here refl))))
+opcode-listed Opcode.Vset = later (later (later (later (later (here refl)))))
+opcode-listed (Opcode.Lanes Half) = later (later (later (later (later (later (here refl))))))
+opcode-listed (Opcode.Lanes Byte) = later (later (later (later (later (later (later (here refl)))))))
+opcode-listed Opcode.Set = later (later (later (later (later (later (later (later (here refl))))))))
+opcode-listed Opcode.Setp = later (later (later (later (later (later (later (later (later (here refl)))))))))
+opcode-listed Opcode.Selp = later (later (later (later (later (later (later (later (later (later (here refl))))))))))
+opcode-listed Opcode.Slct = later (later (later (later (later (later (later (later (later (later (later (here refl)))))))))))
+
+-- a row that was looked at is not answered by `NoOpcode`
+found-opens : (r : Read) → foundOf r ≡ Found.NoOpcode → ⊥
+unfolding foundOf
+found-opens (Read.Is i) e = let z : _≡_ {A = ℕ} 0 1 = cc in omega arith
+found-opens (Read.Wrong k) e = let z : _≡_ {A = ℕ} 0 1 = cc in omega arith
+
+first-name : (n : Name) (ns : List Name) → nameAt (seenHead (n ∷ ns)) 0 ≡ codeOf n
+unfolding nameAt seenHead
+first-name n ns = refl
+
+opcode-found : (n : Name) (ns : List Name) (op : Opcode) → n ≡ opcodeName op → rowOf (seenHead (n ∷ ns)) ≡ foundOf (readOf op (seenHead (n ∷ ns)))
+unfolding rowOf rowBy
+opcode-found n ns op e =
+    let z : opcodeOf (codeOf n) ≡ OpcodeName.Is op = ap (λ (m : Name). opcodeOf (codeOf m)) e ∙ opcode-complete op in
+    rw (first-name n ns, z)
+
+pub no-opcode-known : (n : Name) (ns : List Name) → GoodName n → rowOf (seenHead (n ∷ ns)) ≡ Found.NoOpcode → Listed n opcodes → ⊥
+no-opcode-known n ns good e l =
+    let o = listed-opens n l in
+    found-opens (readOf (o .0) (seenHead (n ∷ ns))) (sym (opcode-found n ns (o .0) (o .1)) ∙ e)
+
+pub wrong-known : (n : Name) (ns : List Name) (k : ℕ) → GoodName n → rowOf (seenHead (n ∷ ns)) ≡ Found.Wrong k → Listed n opcodes
+unfolding rowOf rowBy
+wrong-known n ns k good e = go (opcodeOf (nameAt (seenHead (n ∷ ns)) 0)) refl e
+  where
+    go : (x : OpcodeName) → opcodeOf (nameAt (seenHead (n ∷ ns)) 0) ≡ x → rowBy x (seenHead (n ∷ ns)) ≡ Found.Wrong k → Listed n opcodes
+    go OpcodeName.Not p e = let z : _≡_ {A = ℕ} 0 1 = cc in absurd (omega arith)
+    go (OpcodeName.Is op) p e =
+        let c = opcode-sound (nameAt (seenHead (n ∷ ns)) 0) op p in
+        let s = short-name (opcodeName op) (c .short) in
+        let z : n ≡ opcodeName op = code-known n (opcodeName op) good (s .0) (s .1) (sym (first-name n ns) ∙ c .code) in
+        subst (λ (m : Name). Listed m opcodes) (sym z) (opcode-listed op)

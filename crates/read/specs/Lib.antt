@@ -1,0 +1,3 @@
+pub mod Paper
+pub mod Mirror
+pub mod Laws

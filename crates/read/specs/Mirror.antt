@@ -1,0 +1,131 @@
+-- What the reader computes, stage by stage, on lists. No one has to believe it: specs/Laws.antt joins it to the grammar.
+use Prim.Native.Nat.{ℕ, zero, suc}
+use mathlib.Core.Bool.{Bool, true, false, not, _&&_, cond}
+use mathlib.Core.List.{List}
+use lib.ListN.{length}
+use lib.Dec.{ltb}
+use Rattle.record.specs.Modifiers.{modifiersFit}
+use Rattle.record.specs.Operands.{operandsFit}
+use Rattle.record.specs.Refusals.{numbersInRange, pairApart}
+use Rattle.record.specs.declared.Pred.{Pred}
+use Rattle.record.specs.declared.DataType.the-variants.{B32}
+use Rattle.record.specs.declared.Guard.{Guard}
+use Rattle.record.specs.declared.Guard.the-variants.{Always, When}
+use Rattle.record.specs.declared.Instruction.{Instruction}
+use Rattle.record.specs.declared.Instruction.the-variants.{Selp}
+use Rattle.record.specs.declared.Record.{Record}
+use Rattle.rules.specs.Reading.{lineLimit, Answer, read, refused}
+use Rattle.tree.specs.Blank.{noPred, blankChoice}
+use Rattle.tree.specs.declared.Place
+use Rattle.tree.specs.declared.Place.{Place}
+use Rattle.tree.specs.declared.Guarding.{Guarding}
+use Rattle.tree.specs.declared.Guarding.the-variants.{Unguarded, Guarded}
+use Rattle.tree.specs.declared.Operands.{Operands}
+use Rattle.tree.specs.declared.Parts.{Parts}
+use Rattle.shape.specs.Line.{shapeOf}
+use Rattle.heads.specs.Rows.{rowOf}
+use Rattle.heads.specs.declared.Found
+use Rattle.heads.specs.declared.Found.{Found}
+use Rattle.fills.specs.Fills.{filledOf}
+use Rattle.fills.specs.declared.Filled
+use Rattle.fills.specs.declared.Filled.{Filled}
+use Rattle.read.specs.declared.Candidate.{Candidate}
+use Rattle.read.specs.declared.Stop.{Stop}
+
+-- ==== what the head gave
+
+abbrev pub opcodeIs : Found → Bool
+opcodeIs (Found.Row i) = true
+opcodeIs Found.NoOpcode = false
+opcodeIs (Found.Wrong k) = true
+
+abbrev pub rowIs : Found → Bool
+rowIs (Found.Row i) = true
+rowIs Found.NoOpcode = false
+rowIs (Found.Wrong k) = false
+
+abbrev pub noInstruction : Instruction
+noInstruction = Selp (blankChoice B32) noPred
+
+abbrev pub instructionIn : Found → Instruction
+instructionIn (Found.Row i) = i
+instructionIn Found.NoOpcode = noInstruction
+instructionIn (Found.Wrong k) = noInstruction
+
+-- ==== what the operands gave
+
+abbrev pub fullIs : Filled → Bool
+fullIs (Filled.Full i) = true
+fullIs (Filled.Wrong k) = false
+
+abbrev pub filledIn : Filled → Instruction
+filledIn (Filled.Full i) = i
+filledIn (Filled.Wrong k) = noInstruction
+
+-- ==== the guard
+
+abbrev pub predIs : Place → Bool
+predIs (Place.Word w) = false
+predIs (Place.Double d) = false
+predIs (Place.Pred q) = true
+
+abbrev pub predIn : Place → Pred
+predIn (Place.Word w) = noPred
+predIn (Place.Double d) = noPred
+predIn (Place.Pred q) = q
+
+abbrev pub guardGood : Guarding → Bool
+guardGood Unguarded = true
+guardGood (Guarded negated p) = predIs p
+
+abbrev pub guardAt : Bool → Pred → Guard
+guardAt negated q = When (record { inverted = negated; pred = q })
+
+abbrev pub guardIn : Guarding → Guard
+guardIn Unguarded = Always
+guardIn (Guarded negated p) = guardAt negated (predIn p)
+
+-- ==== the stages
+
+abbrev pub recordOf : Guard → Instruction → Record
+recordOf g i = record { guard = g; instruction = i }
+
+abbrev pub candidateBy : Guarding → Found → Filled → Candidate
+candidateBy g found filled =
+    record {
+      record = recordOf (guardIn g) (filledIn filled);
+      opcode = opcodeIs found;
+      row = rowIs found && modifiersFit (recordOf (guardIn g) (instructionIn found));
+      fit = guardGood g && fullIs filled && operandsFit (recordOf (guardIn g) (filledIn filled));
+    }
+
+unfoldable pub candidateOf : Parts → Candidate
+candidateOf x = candidateBy (x .guard) (rowOf (x .head)) (filledOf (instructionIn (rowOf (x .head))) (x .operands))
+
+abbrev pub firstRefusal : Bool → Bool → Bool → Bool → Bool → Bool → Bool → ℕ
+firstRefusal tooLong noShape noOpcode noRow noFit outOfFile samePair =
+    cond tooLong 1
+    (cond noShape 2
+    (cond noOpcode 3
+    (cond noRow 4
+    (cond noFit 5
+    (cond outOfFile 6
+    (cond samePair 7
+    0))))))
+
+abbrev pub numberOf : Bool → Bool → Candidate → ℕ
+numberOf tooLong good c =
+    firstRefusal tooLong (not good) (not (c .opcode)) (not (c .row)) (not (c .fit)) (not (numbersInRange (c .record))) (not (pairApart (c .record)))
+
+unfoldable pub stopOf : Bool → Bool → ℕ → Candidate → Stop
+stopOf tooLong good place c = record { number = numberOf tooLong good c; place = place }
+
+abbrev pub decided : ℕ → Record → Answer
+decided zero m = read m
+decided (suc n) m = refused (suc n)
+
+abbrev pub decidedBy : Bool → Bool → Candidate → Answer
+decidedBy tooLong good c = decided (numberOf tooLong good c) (c .record)
+
+unfoldable pub readOf : List ℕ → Answer
+readOf l = decidedBy (ltb lineLimit (length l)) (shapeOf l .good) (candidateOf (shapeOf l .parts))

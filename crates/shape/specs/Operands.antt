@@ -1,0 +1,51 @@
+-- The operands at the front of a list, as the scanner finds them.
+use Prim.Native.Nat.{ℕ, suc, zero}
+use mathlib.Core.List.{List}
+use mathlib.Core.Bool.{Bool, true, false, cond}
+use lib.Dec.{leb, eqb}
+use lib.ListN.{getD, drop, set, replicate}
+use Rattle.base.specs.Bytes.{isBlank}
+use Rattle.tree.specs.Seen.{operandsKept, spare}
+use Rattle.tree.specs.declared.Tree.{Tree}
+use Rattle.tree.specs.declared.Operands.{Operands}
+use Rattle.scan.specs.Runs.{run, sum}
+use Rattle.shape.specs.Operand.{operandOf}
+use Rattle.shape.specs.Turns.{turns, mostTurns}
+use Rattle.shape.specs.declared.OperandRead.{OperandRead}
+use Rattle.shape.specs.declared.OperandRead.the-variants as operand
+use Rattle.shape.specs.declared.Divider.{Divider}
+use Rattle.shape.specs.declared.Divider.the-variants.{Comma, Semicolon, Bad}
+use Rattle.shape.specs.declared.Listed.{Listed}
+
+abbrev pub noOperands : Operands
+noOperands = record { n = 0; at = replicate operandsKept spare }
+
+unfoldable pub pushedTree : Operands → Tree → Operands
+pushedTree o t = record { n = sum (o .n) 1; at = cond (leb operandsKept (o .n)) (o .at) (set (o .at) (o .n) (record { tree = t })) }
+
+unfoldable pub dividerBy : ℕ → ℕ → ℕ → Divider
+dividerBy n b m = cond (eqb b 44) (Comma (sum (sum n 1) m)) (cond (eqb b 59) (Semicolon (sum n 1)) (Bad n))
+
+unfoldable pub dividerOf : List ℕ → Divider
+dividerOf w = let sign = drop (run isBlank w) w in dividerBy (run isBlank w) (getD sign 0 0) (run isBlank (drop 1 sign))
+
+abbrev pub startList : Listed
+startList = record { more = true; good = false; place = 0; step = 0; operands = noOperands }
+
+unfoldable pub dividedBy : ℕ → Operands → ℕ → Divider → Listed
+dividedBy p o n (Comma m) = record { more = true; good = false; place = sum (sum p n) m; step = sum n m; operands = o }
+dividedBy p o n (Semicolon m) = record { more = false; good = true; place = sum (sum p n) m; step = sum n m; operands = o }
+dividedBy p o n (Bad q) = record { more = false; good = false; place = sum (sum p n) q; step = 0; operands = o }
+
+unfoldable pub operandBy : Listed → OperandRead → List ℕ → Listed
+operandBy st (operand.Got t n) w = dividedBy (st .place) (pushedTree (st .operands) t) n (dividerOf (drop n w))
+operandBy st (operand.Bad p) w = record { more = false; good = false; place = sum (st .place) p; step = 0; operands = st .operands }
+
+unfoldable pub operandTurn : List ℕ → Listed → Listed
+operandTurn w st = operandBy st (operandOf w) w
+
+abbrev pub operandTurns : ℕ → List ℕ → Listed → Listed
+operandTurns = turns (λ (st : Listed). st .more) (λ (st : Listed). st .step) operandTurn
+
+unfoldable pub operandsOf : List ℕ → Listed
+operandsOf s = operandTurns mostTurns s startList

@@ -1,0 +1,530 @@
+// The shape of a line, document 01: what the parts of a line are, and how far a line has the shape. Every function takes every slice.
+use scan::Class;
+use scan::Register;
+use scan::byte;
+use scan::further;
+use scan::name_code;
+use scan::read_register;
+use scan::rest;
+use scan::run_len;
+use tree::Guarding;
+use tree::Head;
+use tree::Operands;
+use tree::Parts;
+use tree::Place;
+use tree::Slot;
+use tree::Spot;
+use tree::Tree;
+ghost use mathlib.Core.Path.{_≡_};
+ghost use Rattle.shape.specs.Operand.{operandOf, inverted, firstOf, afterBy, secondOf, secondBy, partOf};
+ghost use Rattle.shape.specs.Head.{noHead, pushedName, startNames, nameBy, nameTurn, headOf};
+ghost use Rattle.shape.specs.Operands.{noOperands, pushedTree, dividerBy, dividerOf, startList, dividedBy, operandBy, operandTurn, operandsOf};
+ghost use Rattle.shape.specs.Guard.{guardBy, guardOf};
+ghost use Rattle.shape.specs.Line.{noParts, refused, fromEnd, fromOperands, fromGap, fromHead, guardedBy, shapeOf};
+
+// An operand and how many bytes it took, or the place of the first byte that is wrong.
+enum OperandRead {
+    Got(Tree, usize),
+    Bad(usize),
+}
+
+// `!` and a register; or two places joined by `|`; or a register, optionally with `.` and a name.
+fn read_operand(s: &[u8]) -> OperandRead
+    ensures { λ r. ⌜ r ≡ operandOf (now (s .entry)) ⌝ }
+{
+    let b = byte(s, 0);
+    if b == b'!' {
+        return inverted(read_register(rest(s, 1)));
+    }
+    if b == b'_' {
+        if byte(s, 1) == b'|' {
+            return second(Spot::Nothing, 2, s);
+        }
+        return OperandRead::Bad(1);
+    }
+    first(read_register(s), s)
+}
+
+fn inverted(r: Register) -> OperandRead
+    ensures { λ o. ⌜ o ≡ inverted r ⌝ }
+{
+    match r {
+        Register::Got(p, n) => OperandRead::Got(Tree::Inverted(p), (n as usize) + 1),
+        Register::Bad(q) => OperandRead::Bad((q as usize) + 1),
+    }
+}
+
+// By the register at the front of s.
+fn first(r: Register, s: &[u8]) -> OperandRead
+    ensures { λ o. ⌜ o ≡ firstOf r (now (s .entry)) ⌝ }
+{
+    match r {
+        Register::Got(p, n) => after(p, n, byte(s, n as usize), s),
+        Register::Bad(q) => OperandRead::Bad(q as usize),
+    }
+}
+
+// By the byte that follows the first n, a register.
+fn after(p: Place, n: u16, b: u8, s: &[u8]) -> OperandRead
+    ensures { λ o. ⌜ o ≡ afterBy p n b (now (s .entry)) ⌝ }
+{
+    if b == b'|' {
+        return second(Spot::At(p), (n as u32) + 1, s);
+    }
+    if b == b'.' {
+        return part(p, (n as u32) + 1, s);
+    }
+    OperandRead::Got(Tree::Bare(p), n as usize)
+}
+
+// The second place of a pair, after n bytes.
+fn second(p: Spot, n: u32, s: &[u8]) -> OperandRead
+    ensures { λ o. ⌜ o ≡ secondOf p n (now (s .entry)) ⌝ }
+{
+    let w = rest(s, n as usize);
+    if byte(w, 0) == b'_' {
+        return OperandRead::Got(Tree::Pair(p, Spot::Nothing), (n as usize) + 1);
+    }
+    second_by(p, n, read_register(w))
+}
+
+fn second_by(p: Spot, n: u32, r: Register) -> OperandRead
+    ensures { λ o. ⌜ o ≡ secondBy p n r ⌝ }
+{
+    match r {
+        Register::Got(q, m) => OperandRead::Got(
+            Tree::Pair(p, Spot::At(q)),
+            (n as usize) + (m as usize),
+        ),
+        Register::Bad(q) => OperandRead::Bad((n as usize) + (q as usize)),
+    }
+}
+
+// The name of a register's part, after n bytes.
+fn part(p: Place, n: u32, s: &[u8]) -> OperandRead
+    ensures { λ o. ⌜ o ≡ partOf p n (now (s .entry)) ⌝ }
+{
+    let w = rest(s, n as usize);
+    let m = run_len(Class::Name, w);
+    if m == 0 {
+        return OperandRead::Bad(n as usize);
+    }
+    OperandRead::Got(Tree::Part(p, name_code(w, m)), further(n as usize, m))
+}
+
+// How many names of a head are kept.
+const NAMES_KEPT: usize = 8;
+
+// A turn of a loop takes a byte at least, and a line has at most 160.
+const MOST_TURNS: usize = 161;
+
+fn no_head() -> Head
+    ensures { λ r. ⌜ r ≡ noHead ⌝ }
+{
+    Head { n: 0, at: [0; 8] }
+}
+
+fn pushed_name(h: Head, code: u64) -> Head
+    ensures { λ r. ⌜ r ≡ pushedName h code ⌝ }
+{
+    let n = h.n;
+    let mut at = h.at;
+    let count = further(n, 1);
+    if NAMES_KEPT <= n {
+        return Head { n: count, at };
+    }
+    at[n] = code;
+    Head { n: count, at }
+}
+
+// How far a head is read: whether a name must follow, whether the head is whole, how many bytes it took, how many of them in the last
+// turn, and the names so far.
+struct Names {
+    more: bool,
+    good: bool,
+    place: usize,
+    step: usize,
+    head: Head,
+}
+
+fn start_names() -> Names
+    ensures { λ r. ⌜ r ≡ startNames ⌝ }
+{
+    let head = no_head();
+    Names {
+        more: true,
+        good: false,
+        place: 0,
+        step: 0,
+        head,
+    }
+}
+
+// Names joined by `.`.
+fn read_head(s: &[u8]) -> Names
+    ensures { λ r. ⌜ r ≡ headOf (now (s .entry)) ⌝ }
+{
+    let mut w = s;
+    let mut names = start_names();
+    for _turn in 0..MOST_TURNS {
+        if !names.more {
+            return names;
+        }
+        names = name_turn(w, names);
+        let step = names.step;
+        let next = rest(w, step);
+        w = next;
+    }
+    names
+}
+
+// One name.
+fn name_turn(w: &[u8], names: Names) -> Names
+    ensures { λ r. ⌜ r ≡ nameTurn (now (w .entry)) names ⌝ }
+{
+    let n = run_len(Class::Name, w);
+    name_by(names, n, byte(w, n), name_code(w, n))
+}
+
+// By the name's length, the byte after it, and its number.
+fn name_by(names: Names, n: usize, b: u8, code: u64) -> Names
+    ensures { λ r. ⌜ r ≡ nameBy names n b code ⌝ }
+{
+    let place = names.place;
+    let head = names.head;
+    if n == 0 {
+        return Names {
+            more: false,
+            good: false,
+            place,
+            step: 0,
+            head,
+        };
+    }
+    let longer = pushed_name(head, code);
+    let end = further(place, n);
+    if b == b'.' {
+        return Names {
+            more: true,
+            good: false,
+            place: further(end, 1),
+            step: further(n, 1),
+            head: longer,
+        };
+    }
+    Names {
+        more: false,
+        good: true,
+        place: end,
+        step: n,
+        head: longer,
+    }
+}
+
+// How many operands are kept.
+const OPERANDS_KEPT: usize = 5;
+
+fn no_operands() -> Operands
+    ensures { λ r. ⌜ r ≡ noOperands ⌝ }
+{
+    let spare = Slot {
+        tree: Tree::Pair(Spot::Nothing, Spot::Nothing),
+    };
+    Operands {
+        n: 0,
+        at: [spare; 5],
+    }
+}
+
+fn pushed_tree(o: Operands, tree: Tree) -> Operands
+    ensures { λ r. ⌜ r ≡ pushedTree o tree ⌝ }
+{
+    let n = o.n;
+    let mut at = o.at;
+    let count = further(n, 1);
+    if OPERANDS_KEPT <= n {
+        return Operands { n: count, at };
+    }
+    at[n] = Slot { tree };
+    Operands { n: count, at }
+}
+
+// What stands after an operand, with its length: optional blanks and a comma with optional blanks behind it, or a semicolon; or the place of
+// the first byte that is wrong.
+enum Divider {
+    Comma(usize),
+    Semicolon(usize),
+    Bad(usize),
+}
+
+fn read_divider(w: &[u8]) -> Divider
+    ensures { λ r. ⌜ r ≡ dividerOf (now (w .entry)) ⌝ }
+{
+    let n = run_len(Class::Blank, w);
+    let sign = rest(w, n);
+    divider_by(n, byte(sign, 0), run_len(Class::Blank, rest(sign, 1)))
+}
+
+// By the blanks before, the byte, and the blanks behind it.
+fn divider_by(n: usize, b: u8, m: usize) -> Divider
+    ensures { λ r. ⌜ r ≡ dividerBy n b m ⌝ }
+{
+    let end = further(n, 1);
+    if b == b',' {
+        return Divider::Comma(further(end, m));
+    }
+    if b == b';' {
+        return Divider::Semicolon(end);
+    }
+    Divider::Bad(n)
+}
+
+// How far the operands are read, as for a head.
+struct Listed {
+    more: bool,
+    good: bool,
+    place: usize,
+    step: usize,
+    operands: Operands,
+}
+
+fn start_list() -> Listed
+    ensures { λ r. ⌜ r ≡ startList ⌝ }
+{
+    let operands = no_operands();
+    Listed {
+        more: true,
+        good: false,
+        place: 0,
+        step: 0,
+        operands,
+    }
+}
+
+// One or more operands divided by a comma with optional blanks around it; optional blanks; `;`.
+fn read_operands(s: &[u8]) -> Listed
+    ensures { λ r. ⌜ r ≡ operandsOf (now (s .entry)) ⌝ }
+{
+    let mut w = s;
+    let mut list = start_list();
+    for _turn in 0..MOST_TURNS {
+        if !list.more {
+            return list;
+        }
+        list = operand_turn(w, list);
+        let step = list.step;
+        let next = rest(w, step);
+        w = next;
+    }
+    list
+}
+
+// One operand and what divides it from the next.
+fn operand_turn(w: &[u8], list: Listed) -> Listed
+    ensures { λ r. ⌜ r ≡ operandTurn (now (w .entry)) list ⌝ }
+{
+    operand_by(list, read_operand(w), w)
+}
+
+fn operand_by(list: Listed, r: OperandRead, w: &[u8]) -> Listed
+    ensures { λ o. ⌜ o ≡ operandBy list r (now (w .entry)) ⌝ }
+{
+    let place = list.place;
+    let operands = list.operands;
+    match r {
+        OperandRead::Got(tree, n) => divided_by(
+            place,
+            pushed_tree(operands, tree),
+            n,
+            read_divider(rest(w, n)),
+        ),
+        OperandRead::Bad(p) => Listed {
+            more: false,
+            good: false,
+            place: further(place, p),
+            step: 0,
+            operands,
+        },
+    }
+}
+
+// After an operand of n bytes.
+fn divided_by(place: usize, operands: Operands, n: usize, d: Divider) -> Listed
+    ensures { λ o. ⌜ o ≡ dividedBy place operands n d ⌝ }
+{
+    let end = further(place, n);
+    match d {
+        Divider::Comma(m) => Listed {
+            more: true,
+            good: false,
+            place: further(end, m),
+            step: further(n, m),
+            operands,
+        },
+        Divider::Semicolon(m) => Listed {
+            more: false,
+            good: true,
+            place: further(end, m),
+            step: further(n, m),
+            operands,
+        },
+        Divider::Bad(p) => Listed {
+            more: false,
+            good: false,
+            place: further(end, p),
+            step: 0,
+            operands,
+        },
+    }
+}
+
+// A guard with the blanks behind it, and how many bytes that took; or the place of the first byte that is wrong.
+enum GuardRead {
+    Got(Guarding, usize),
+    Bad(usize),
+}
+
+// Optionally `@`, optional `!`, a register, and at least one blank.
+fn read_guard(w: &[u8]) -> GuardRead
+    ensures { λ r. ⌜ r ≡ guardOf (now (w .entry)) ⌝ }
+{
+    if byte(w, 0) != b'@' {
+        return GuardRead::Got(Guarding::Unguarded, 0);
+    }
+    if byte(w, 1) == b'!' {
+        let after = rest(w, 2);
+        return guard_by(true, 2, read_register(after), after);
+    }
+    let after = rest(w, 1);
+    guard_by(false, 1, read_register(after), after)
+}
+
+// By the register that follows the guard's n signs.
+fn guard_by(negated: bool, n: u32, r: Register, w: &[u8]) -> GuardRead
+    ensures { λ o. ⌜ o ≡ guardBy negated n r (now (w .entry)) ⌝ }
+{
+    match r {
+        Register::Got(p, m) => {
+            let blanks = run_len(Class::Blank, rest(w, m as usize));
+            if blanks == 0 {
+                return GuardRead::Bad((n as usize) + (m as usize));
+            }
+            GuardRead::Got(
+                Guarding::Guarded(negated, p),
+                further((n as usize) + (m as usize), blanks),
+            )
+        }
+        Register::Bad(q) => GuardRead::Bad((n as usize) + (q as usize)),
+    }
+}
+
+// Whether a line has the shape, how far it was read, and its parts where it has the shape.
+pub struct Scanned {
+    pub good: bool,
+    pub place: usize,
+    pub parts: Parts,
+}
+
+fn no_parts() -> Parts
+    ensures { λ r. ⌜ r ≡ noParts ⌝ }
+{
+    let head = no_head();
+    let operands = no_operands();
+    Parts {
+        guard: Guarding::Unguarded,
+        head,
+        operands,
+    }
+}
+
+fn refused(place: usize) -> Scanned
+    ensures { λ r. ⌜ r ≡ refused place ⌝ }
+{
+    let parts = no_parts();
+    Scanned {
+        good: false,
+        place,
+        parts,
+    }
+}
+
+// Optional blanks; optionally a guard and at least one blank; the head; at least one blank; operands; optional blanks; `;`; optional blanks.
+pub fn shape(line: &[u8]) -> Scanned
+    ensures { λ r. ⌜ r ≡ shapeOf (now (line .entry)) ⌝ }
+{
+    let n = run_len(Class::Blank, line);
+    let w = rest(line, n);
+    guarded_by(n, read_guard(w), w)
+}
+
+fn guarded_by(place: usize, g: GuardRead, w: &[u8]) -> Scanned
+    ensures { λ r. ⌜ r ≡ guardedBy place g (now (w .entry)) ⌝ }
+{
+    match g {
+        GuardRead::Got(guard, n) => from_head(further(place, n), guard, rest(w, n)),
+        GuardRead::Bad(p) => refused(further(place, p)),
+    }
+}
+
+// From the head on.
+fn from_head(place: usize, guard: Guarding, w: &[u8]) -> Scanned
+    ensures { λ r. ⌜ r ≡ fromHead place guard (now (w .entry)) ⌝ }
+{
+    let read = read_head(w);
+    let head = read.head;
+    let n = read.place;
+    let end = further(place, n);
+    if read.good {
+        return from_gap(end, guard, head, rest(w, n));
+    }
+    refused(end)
+}
+
+// From the blanks after the head on.
+fn from_gap(place: usize, guard: Guarding, head: Head, w: &[u8]) -> Scanned
+    ensures { λ r. ⌜ r ≡ fromGap place guard head (now (w .entry)) ⌝ }
+{
+    let n = run_len(Class::Blank, w);
+    if n == 0 {
+        return refused(place);
+    }
+    from_operands(further(place, n), guard, head, rest(w, n))
+}
+
+// From the operands on.
+fn from_operands(place: usize, guard: Guarding, head: Head, w: &[u8]) -> Scanned
+    ensures { λ r. ⌜ r ≡ fromOperands place guard head (now (w .entry)) ⌝ }
+{
+    let read = read_operands(w);
+    let operands = read.operands;
+    let n = read.place;
+    let end = further(place, n);
+    if read.good {
+        return from_end(
+            end,
+            Parts {
+                guard,
+                head,
+                operands,
+            },
+            rest(w, n),
+        );
+    }
+    refused(end)
+}
+
+// After the semicolon: blanks, and nothing else.
+fn from_end(place: usize, parts: Parts, w: &[u8]) -> Scanned
+    ensures { λ r. ⌜ r ≡ fromEnd place parts (now (w .entry)) ⌝ }
+{
+    let n = run_len(Class::Blank, w);
+    let end = further(place, n);
+    if n < w.len() {
+        return refused(end);
+    }
+    Scanned {
+        good: true,
+        place: end,
+        parts,
+    }
+}
