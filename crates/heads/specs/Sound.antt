@@ -103,7 +103,7 @@ count : (ns : List Name) → seenHead ns .n ≡ length ns
 unfolding seenHead
 count ns = refl
 
--- the names from one place on are those of the rest of the row, and the operands are blank
+-- after this opcode the head goes on as the instruction's row does, to its end; the operands are blank
 pub record RowIs (ns : List Name) (op : Opcode) (i : Instruction) : Type 0 where
   pub names : opcodeName op ∷ drop 1 ns ≡ headNames i
   pub blank : blank i ≡ i

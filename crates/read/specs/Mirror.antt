@@ -93,7 +93,7 @@ recordOf g i = record { guard = g; instruction = i }
 abbrev pub candidateBy : Guarding → Found → Filled → Candidate
 candidateBy g found filled =
     record {
-      record = recordOf (guardIn g) (filledIn filled);
+      spelled = recordOf (guardIn g) (filledIn filled);
       opcode = opcodeIs found;
       row = rowIs found && modifiersFit (recordOf (guardIn g) (instructionIn found));
       fit = guardGood g && fullIs filled && operandsFit (recordOf (guardIn g) (filledIn filled));
@@ -115,7 +115,7 @@ firstRefusal tooLong noShape noOpcode noRow noFit outOfFile samePair =
 
 abbrev pub numberOf : Bool → Bool → Candidate → ℕ
 numberOf tooLong good c =
-    firstRefusal tooLong (not good) (not (c .opcode)) (not (c .row)) (not (c .fit)) (not (numbersInRange (c .record))) (not (pairApart (c .record)))
+    firstRefusal tooLong (not good) (not (c .opcode)) (not (c .row)) (not (c .fit)) (not (numbersInRange (c .spelled))) (not (pairApart (c .spelled)))
 
 unfoldable pub stopOf : Bool → Bool → ℕ → Candidate → Stop
 stopOf tooLong good place c = record { number = numberOf tooLong good c; place = place }
@@ -125,7 +125,7 @@ decided zero m = read m
 decided (suc n) m = refused (suc n)
 
 abbrev pub decidedBy : Bool → Bool → Candidate → Answer
-decidedBy tooLong good c = decided (numberOf tooLong good c) (c .record)
+decidedBy tooLong good c = decided (numberOf tooLong good c) (c .spelled)
 
 unfoldable pub readOf : List ℕ → Answer
 readOf l = decidedBy (ltb lineLimit (length l)) (shapeOf l .good) (candidateOf (shapeOf l .parts))

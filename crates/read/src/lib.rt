@@ -16,7 +16,7 @@ use tree::Place;
 ghost use mathlib.Core.Path.{_≡_};
 ghost use Rattle.rules.specs.Reading.{Answers};
 ghost use Rattle.read.specs.Paper.{answerOf};
-ghost use Rattle.read.specs.Mirror.{opcodeIs, rowIs, instructionIn, fullIs, filledIn, predIs, predIn, guardGood, guardIn, candidateOf, firstRefusal, stopOf};
+ghost use Rattle.read.specs.Mirror.{opcodeIs, rowIs, noInstruction, instructionIn, fullIs, filledIn, predIs, predIn, guardGood, guardAt, guardIn, recordOf, candidateOf, firstRefusal, stopOf};
 
 // The record, or document 01's number of the refusal.
 pub enum Reading {
@@ -50,7 +50,7 @@ struct Stop {
 
 // The record that the line spells as far as it spells one, and which stages it passed.
 struct Candidate {
-    record: Record,
+    spelled: Record,
     opcode: bool,
     row: bool,
     fit: bool,
@@ -183,7 +183,7 @@ fn record_of(guard: Guard, instruction: Instruction) -> Record
     }
 }
 
-fn candidate(x: Parts) -> Candidate
+fn weighed(x: Parts) -> Candidate
     ensures { λ r. ⌜ r ≡ candidateOf x ⌝ }
 {
     let g = x.guard;
@@ -197,7 +197,7 @@ fn candidate(x: Parts) -> Candidate
     let row = has_row(found) & record::modifiers_fit(record_of(guard, named));
     let fit = guard_good(g) & is_full(filled) & record::operands_fit(r);
     Candidate {
-        record: r,
+        spelled: r,
         opcode: has_opcode(found),
         row: row,
         fit: fit,
@@ -240,10 +240,10 @@ fn first_refusal(
     0
 }
 
-fn stop(too_long: bool, good: bool, place: usize, c: Candidate) -> Stop
+fn stopped(too_long: bool, good: bool, place: usize, c: Candidate) -> Stop
     ensures { λ r. ⌜ r ≡ stopOf «too_long» good place c ⌝ }
 {
-    let r = c.record;
+    let r = c.spelled;
     let number = first_refusal(
         too_long,
         !good,
@@ -266,16 +266,11 @@ pub fn read(line: &[u8]) -> Reading
 {
     let scanned = shape::shape(line);
     let parts = scanned.parts;
-    let c = candidate(parts);
-    let s = stop(
-        LINE_LIMIT < line.len(),
-        scanned.good,
-        scanned.place,
-        c,
-    );
+    let c = weighed(parts);
+    let s = stopped(LINE_LIMIT < line.len(), scanned.good, scanned.place, c);
     if s.number != 0 {
         return Reading::Refused(s.number);
     }
-    let r = c.record;
+    let r = c.spelled;
     Reading::Record(r)
 }

@@ -1,5 +1,5 @@
 -- The number: what the scanner finds is the text of a number below 1000, and it finds every such text.
-use Prim.Native.Nat.{ℕ, suc, zero, _+_, _*_, _-_, _/_, _%_, _≤_, _<_}
+use Prim.Native.Nat.{ℕ, _+_, _*_, _/_, _%_, _≤_, _<_}
 use mathlib.Core.Path.{_≡_, refl, sym, ap, _∙_, subst}
 use mathlib.Core.List.{List, [], _∷_, _++_}
 use mathlib.Core.Bool.{Bool, true, false, _&&_, cond}
@@ -11,10 +11,8 @@ use Rattle.base.specs.Bytes.{isDigit, All}
 use Rattle.base.specs.Bytes.All.{none, more}
 use Rattle.rules.specs.Shape.{digit, numberText}
 use Rattle.rules.specs.Grammar.{numberLimit}
-use Rattle.scan.specs.Runs.{run}
-use Rattle.scan.specs.RunLaws.{Stops, run-all, split}
+use Rattle.scan.specs.RunLaws.{not-so, Stops, run-all, split}
 use Rattle.scan.specs.Numbers.{digitOf, numberBy, numberOf}
-use Rattle.scan.specs.declared.Number.{Number}
 use Rattle.scan.specs.declared.Number.the-variants.{Got, Bad}
 
 -- ---- digits
@@ -25,12 +23,10 @@ digit-is n = simp (le-leb 48 (digit n) (omega arith), le-leb (digit n) 57 (omega
 digit-range : (b : ℕ) → isDigit b ≡ true → (48 ≤ b) × (b ≤ 57)
 digit-range b e = go (leb 48 b) refl (leb b 57) refl e
   where
-    off : {A : Type 0} → false ≡ true → A
-    off q = let z : _≡_ {A = ℕ} 0 1 = cc in absurd (omega arith)
     go : (t : Bool) → leb 48 b ≡ t → (u : Bool) → leb b 57 ≡ u → t && u ≡ true → (48 ≤ b) × (b ≤ 57)
     go true p true q f = (leb-true 48 b p, leb-true b 57 q)
-    go true p false q f = off f
-    go false p u q f = off f
+    go true p false q f = not-so f
+    go false p u q f = not-so f
 
 digit-of : (n : ℕ) → digitOf (digit n) ≡ n % 10
 digit-of n = omega arith

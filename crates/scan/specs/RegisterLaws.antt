@@ -1,12 +1,12 @@
 -- The register: what the scanner finds is a register's text, and it finds every one.
-use Prim.Native.Nat.{ℕ, suc, zero, _+_, _≤_, _<_}
-use mathlib.Core.Path.{_≡_, refl, sym, ap, _∙_, subst}
-use mathlib.Core.List.{List, [], _∷_, _++_, append-assoc}
+use Prim.Native.Nat.{ℕ, _+_, _<_}
+use mathlib.Core.Path.{_≡_, refl, ap, _∙_}
+use mathlib.Core.List.{List, _∷_, _++_}
 use mathlib.Core.Bool.{Bool, true, false, cond}
 use native.Mathlib.Omega.{arith}
 use borrow.Author.Tests.{ne-eqb, eqb-true}
 use lib.Dec.{eqb}
-use lib.ListN.{length, getD, drop, length-append}
+use lib.ListN.{length, getD, drop}
 use Rattle.base.specs.Bytes.{isDigit}
 use Rattle.base.specs.Text.{bytes}
 use Rattle.rules.specs.Executing as executing
@@ -24,7 +24,6 @@ use Rattle.scan.specs.declared.File.{File}
 use Rattle.scan.specs.declared.File.the-variants.{Words, Doubles, Preds}
 use Rattle.scan.specs.declared.Prefix.{Prefix}
 use Rattle.scan.specs.declared.Prefix.the-variants.{Of, Not}
-use Rattle.scan.specs.declared.Register.{Register}
 use Rattle.scan.specs.declared.Register.the-variants.{Got, Bad}
 
 abbrev prefix : File → List ℕ
@@ -90,6 +89,7 @@ prefix-sound s f k e = go (eqb (getD s 0 0) 37) refl (eqb (getD s 1 0) 112) refl
   where
     one : eqb (getD s 0 0) 37 ≡ true → s ≡ 37 ∷ drop 1 s
     one a = at-is s 0 37 (omega arith) (eqb-true (getD s 0 0) 37 a)
+
     go : (t : Bool) → eqb (getD s 0 0) 37 ≡ t → (u : Bool) → eqb (getD s 1 0) 112 ≡ u → (v : Bool) → eqb (getD s 1 0) 114 ≡ v → (w : Bool) → eqb (getD s 2 0) 100 ≡ w
         → cond t (cond u (Of Preds 2) (cond v (cond w (Of Doubles 3) (Of Words 2)) (Not 1))) (Not 0) ≡ Of f k → PrefixAt s f k
     go true a true b v c w d q = prefix-at s f Preds 2 k q (one a ∙ ap (λ (l : List ℕ). 37 ∷ l) (at-is s 1 112 (omega arith) (eqb-true (getD s 1 0) 112 b))) refl

@@ -1,22 +1,35 @@
 -- Laws of runs: what a run at the front of a list is, and what stands after it.
 use Prim.Native.Nat.{ℕ, suc, zero, _+_, _-_, _≤_, _<_}
-use mathlib.Core.Path.{_≡_, refl, sym, ap, _∙_}
+use mathlib.Core.Path.{_≡_, refl, ap}
 use mathlib.Core.List.{List, [], _∷_, _++_}
 use mathlib.Core.Bool.{Bool, true, false, cond}
 use native.Mathlib.Nat.{le-of-eq}
 use native.Mathlib.Numerals.{add-one}
 use native.Mathlib.Omega.{arith}
 use borrow.Author.Tests.{le-leb}
+use lib.Dec.{leb}
 use lib.ListN.{length, getD, drop, take, length-drop, drop-of-length-le}
 use lib.Seq.{drop-cons, take-all, drop-append-add}
 use Rattle.base.specs.Bytes.{All}
 use Rattle.base.specs.Bytes.All.{none, more}
 use Rattle.scan.specs.Runs.{run, sum, most}
 
+-- false is not true
+pub not-so : {A : Type 0} → false ≡ true → A
+not-so e = let z : _≡_ {A = ℕ} 0 1 = cc in absurd (omega arith)
+
 -- a sum that fits is exact
 pub sum-is : (a b : ℕ) → a + b ≤ most → sum a b ≡ a + b
 unfolding sum
 sum-is a b h = simp (le-leb b (most - a) (omega arith))
+
+pub sum-some : (a b : ℕ) → 0 < a + b → 0 < sum a b
+unfolding sum
+sum-some a b h = go (leb b (most - a))
+  where
+    go : (t : Bool) → 0 < cond t (a + b) most
+    go true = h
+    go false = omega arith
 
 -- `&s[n..]` is what follows the first n
 pub part-rest : (n : ℕ) (s : List ℕ) → take (length s - n) (drop n s) ≡ drop n s

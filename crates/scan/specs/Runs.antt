@@ -1,7 +1,7 @@
 -- Places and runs, as the scanners count them.
 use Prim.Native.Nat.{ℕ, suc, _+_, _-_}
 use mathlib.Core.List.{List, [], _∷_}
-use mathlib.Core.Bool.{Bool, true, false, cond}
+use mathlib.Core.Bool.{Bool, cond}
 use lib.Dec.{leb}
 use Rattle.base.specs.Bytes.{isBlank, isDigit, isNameByte}
 use Rattle.scan.specs.declared.Class.{Class}

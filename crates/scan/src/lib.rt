@@ -8,7 +8,7 @@ ghost use mathlib.Core.Path.{_≡_};
 ghost use Prim.Native.Nat.{_%_};
 ghost use lib.ListN.{getD, drop, take};
 ghost use Rattle.base.specs.Bytes.{isBlank, isDigit, isNameByte};
-ghost use Rattle.base.specs.Pack.{codeOf};
+ghost use Rattle.base.specs.Pack.{radix, codeOf};
 ghost use Rattle.scan.specs.Runs.{sum, inClass, run};
 ghost use Rattle.scan.specs.Numbers.{digitOf, numberBy, numberOf};
 ghost use Rattle.scan.specs.Registers.{prefixBy, placeIn, numbered, registerBy, registerOf};
@@ -103,7 +103,7 @@ const RADIX: u64 = 128;
 const LONGEST_NAME: usize = 9;
 
 fn name_digit(b: u8) -> u64
-    ensures { λ r. ⌜ r ≡ b % 128 ⌝ }
+    ensures { λ r. ⌜ r ≡ b % radix ⌝ }
 {
     (b as u64) % RADIX
 }

@@ -1,12 +1,11 @@
 -- Every good tree's text is read, and the reader keeps of it what it should.
-use Prim.Native.Nat.{ℕ, suc, zero, _+_, _≤_, _<_}
+use Prim.Native.Nat.{ℕ, _+_, _≤_}
 use mathlib.Core.Path.{_≡_, refl, sym, ap, _∙_}
 use mathlib.Core.List.{List, [], _∷_, _++_, append-assoc, append-nil}
 use mathlib.Core.Bool.{Bool, true, false, cond}
 use native.Mathlib.Omega.{arith}
-use native.Mathlib.Nat.{le-refl}
 use borrow.Author.Tests.{ne-eqb, le-ltb}
-use lib.Dec.{eqb, ltb}
+use lib.Dec.{eqb}
 use lib.ListN.{length, getD, drop, length-append}
 use lib.Seq.{drop-append-seam}
 use Rattle.base.specs.Bytes.{isBlank, isNameByte, All, Some}
@@ -18,7 +17,7 @@ use Rattle.tree.specs.declared.Guarding.{Guarding}
 use Rattle.tree.specs.declared.Head.{Head}
 use Rattle.tree.specs.declared.Operands.{Operands}
 use Rattle.tree.specs.declared.Parts.{Parts}
-use Rattle.scan.specs.Runs.{run, sum, most}
+use Rattle.scan.specs.Runs.{run, sum}
 use Rattle.scan.specs.RunLaws.{Stops, run-all}
 use Rattle.shape.specs.Head.{headOf as headAt}
 use Rattle.shape.specs.Operands.{operandsOf as operandsAt}
@@ -95,47 +94,67 @@ shape-complete t good m = (ap (λ (s : Scanned). s .good) whole, ap (λ (s : Sca
   where
     guard : List ℕ
     guard = guardTreeText (t .guard)
+
     head : List ℕ
     head = headText (t .opcode ∷ t .modifiers)
+
     operand : List ℕ
     operand = operandText (t .first)
+
     others : List ℕ
     others = dividedText (t .others)
+
     end : List ℕ
     end = t .ending ++ (59 ∷ t .behind)
+
     from-first : List ℕ
     from-first = operand ++ (others ++ end)
+
     from-gap : List ℕ
     from-gap = t .gap ++ from-first
+
     from-head : List ℕ
     from-head = head ++ from-gap
+
     n : ℕ
     n = length operand + length others + (length (t .ending) + 1)
+
     place : ℕ
     place = sum (sum (sum (sum (length (t .before)) (length guard)) (length head)) (length (t .gap))) n
+
     small : length (t .before) + length guard + length head + length (t .gap) + length operand + length others + length (t .ending) + 1 + length (t .behind) ≤ 160
     small = omega (arith, line-length (t .before) guard head (t .gap) operand others (t .ending) (t .behind))
+
     first-byte : isNameByte (getD from-head 0 0) ≡ true
     first-byte = ap (λ (l : List ℕ). isNameByte (getD l 0 0)) (append-assoc (t .opcode) (dotted (t .modifiers)) from-gap) ∙ name-first (good .opcode) (dotted (t .modifiers) ++ from-gap)
+
     p1 : ℕ
     p1 = sum (length (t .before)) (length guard)
+
     p2 : ℕ
     p2 = sum p1 (length head)
+
     g : Guarding
     g = seenGuard (t .guard)
+
     h : Head
     h = seenHead (t .opcode ∷ t .modifiers)
+
     whole : shapeOf (lineText t) ≡ record { good = true; place = sum place (length (t .behind)); parts = seen t }
     whole =
         ap shapeOf (line-joined (t .before) guard head (t .gap) operand others (t .ending) (t .behind))
         ∙ after-before (t .before) (guard ++ from-head) (good .before) (guard-first (t .guard) from-head first-byte)
         ∙ after-guard (length (t .before)) g guard from-head (guard-complete (t .guard) from-head (good .guard) first-byte (omega (arith, small)))
         ∙ after-head p1 g from-head (length head) h
-          (head-complete (t .opcode) (t .modifiers) from-gap (good .opcode) (good .modifiers) (blank-first (λ (b : ℕ). isNameByte b ≡ false) refl refl (good .gap) from-first)
-          (blank-first (λ (b : ℕ). eqb b 46 ≡ false) refl refl (good .gap) from-first) (omega (arith, small)))
+        (head-complete (t .opcode) (t .modifiers) from-gap (good .opcode) (good .modifiers) (blank-first (λ (b : ℕ). isNameByte b ≡ false) refl refl (good .gap) from-first)
+        (blank-first (λ (b : ℕ). eqb b 46 ≡ false) refl refl (good .gap) from-first) (omega (arith, small)))
         ∙ ap (fromGap p2 g h) (drop-append-seam head from-gap)
         ∙ after-gap p2 g h (t .gap) from-first (good .gap) (operand-first (t .first) (others ++ end))
         ∙ after-operands (sum p2 (length (t .gap))) g h from-first n (seenOperands (operandsOf t))
-          (operands-complete (t .first) (t .others) (t .ending) (t .behind) (good .first) (good .others) (good .ending) (omega (arith, small)))
+        (operands-complete (t .first) (t .others) (t .ending) (t .behind) (good .first) (good .others) (good .ending) (omega (arith, small)))
         ∙ ap (fromEnd place (seen t)) (past-list operand others (t .ending) (t .behind))
         ∙ after-blanks place (seen t) (t .behind) (good .behind)
+
+-- no text is of two trees of which the reader keeps different parts
+pub shape-one : (t u : LineTree) → Good t → Good u → length (lineText t) ≤ 160 → lineText t ≡ lineText u → seen t ≡ seen u
+shape-one t u g h m e = sym (shape-complete t g m .1) ∙ ap (λ (l : List ℕ). shapeOf l .parts) e ∙ shape-complete u h (omega (arith, ap length e)) .1

@@ -5,7 +5,6 @@ use mathlib.Core.Bool.{Bool, true, false, cond}
 use lib.Dec.{eqb}
 use lib.ListN.{getD, drop}
 use Rattle.base.specs.Bytes.{isBlank}
-use Rattle.tree.specs.declared.Guarding.{Guarding}
 use Rattle.tree.specs.declared.Guarding.the-variants.{Unguarded, Guarded}
 use Rattle.scan.specs.Runs.{run, sum}
 use Rattle.scan.specs.Registers.{registerOf}

@@ -1,28 +1,27 @@
 -- Every guard's text is read as that guard.
-use Prim.Native.Nat.{ℕ, suc, zero, _+_, _≤_, _<_}
-use mathlib.Core.Path.{_≡_, refl, sym, ap, _∙_, subst}
-use mathlib.Core.List.{List, [], _∷_, _++_, append-assoc}
-use mathlib.Core.Bool.{Bool, true, false, cond}
+use Prim.Native.Nat.{ℕ, _+_, _≤_, _<_}
+use mathlib.Core.Path.{_≡_, refl, sym, ap, _∙_}
+use mathlib.Core.List.{List, _++_, append-assoc}
+use mathlib.Core.Bool.{Bool, true, false}
 use native.Mathlib.Omega.{arith}
-use borrow.Author.Tests.{ne-eqb, eqb-true}
+use borrow.Author.Tests.{ne-eqb}
 use lib.Dec.{eqb}
-use lib.ListN.{length, getD, drop, length-append}
+use lib.ListN.{length, getD, length-append}
 use lib.Seq.{drop-append-seam}
 use Rattle.base.specs.Bytes.{isBlank, isDigit, isNameByte, All, Some}
 use Rattle.base.specs.Bytes.All.{none, more}
 use Rattle.rules.specs.Executing as executing
-use Rattle.rules.specs.Shape.{Name, registerText, guardText}
+use Rattle.rules.specs.Shape.{Name, registerText}
 use Rattle.rules.specs.Grammar.{GuardTree, unguarded, guarded, guardTreeText, GoodPlace, GoodName, GoodGuard}
 use Rattle.tree.specs.Seen.{seenPlace, seenGuard}
-use Rattle.tree.specs.declared.Guarding.the-variants.{Unguarded, Guarded}
-use Rattle.scan.specs.Runs.{run, sum, most}
+use Rattle.tree.specs.declared.Guarding.the-variants.{Guarded}
+use Rattle.scan.specs.Runs.{most}
 use Rattle.scan.specs.RunLaws.{Stops, run-all, sum-is}
 use Rattle.scan.specs.Registers.{registerOf}
 use Rattle.scan.specs.RegisterLaws.{register-complete, register-first}
 use Rattle.shape.specs.OperandLaws.{blank-either}
 use Rattle.shape.specs.Guard.{guardBy, guardOf}
-use Rattle.shape.specs.declared.GuardRead.{GuardRead}
-use Rattle.shape.specs.declared.GuardRead.the-variants.{Got, Bad}
+use Rattle.shape.specs.declared.GuardRead.the-variants.{Got}
 
 -- ---- first bytes
 
@@ -58,8 +57,13 @@ by-register : (negated : Bool) (k : ℕ) (p : executing.Place) (b r : List ℕ) 
 unfolding guardBy
 by-register negated k p b r g s z m =
     let l = s .some in
-    rw (register-complete p (b ++ r) g (blank-first (λ (c : ℕ). isDigit c ≡ false) refl refl s r), drop-append-seam (registerText p) (b ++ r), run-all isBlank r (s .all) z, ne-eqb (length b) 0 (λ q. omega arith),
-      sum-is (k + length (registerText p)) (length b) m)
+    rw (
+      register-complete p (b ++ r) g (blank-first (λ (c : ℕ). isDigit c ≡ false) refl refl s r),
+      drop-append-seam (registerText p) (b ++ r),
+      run-all isBlank r (s .all) z,
+      ne-eqb (length b) 0 (λ q. omega arith),
+      sum-is (k + length (registerText p)) (length b) m,
+    )
 
 pub guard-complete : (g : GuardTree) (r : List ℕ) → GoodGuard g → isNameByte (getD r 0 0) ≡ true → length (guardTreeText g) ≤ most
     → guardOf (guardTreeText g ++ r) ≡ Got (seenGuard g) (length (guardTreeText g))

@@ -1,7 +1,7 @@
 -- What the scanner of a guard finds is a guard's text.
-use Prim.Native.Nat.{ℕ, suc, zero, _+_, _≤_, _<_}
-use mathlib.Core.Path.{_≡_, refl, sym, ap, _∙_, subst}
-use mathlib.Core.List.{List, [], _∷_, _++_, append-assoc}
+use Prim.Native.Nat.{ℕ, suc, _+_, _≤_}
+use mathlib.Core.Path.{_≡_, refl, sym, ap, _∙_}
+use mathlib.Core.List.{List, _∷_, _++_, append-assoc}
 use mathlib.Core.Bool.{Bool, true, false, cond}
 use native.Mathlib.Omega.{arith}
 use borrow.Author.Tests.{ne-eqb, eqb-true}
@@ -18,13 +18,12 @@ use Rattle.tree.specs.declared.Place.{Place}
 use Rattle.tree.specs.declared.Guarding.{Guarding}
 use Rattle.tree.specs.declared.Guarding.the-variants.{Unguarded, Guarded}
 use Rattle.scan.specs.Runs.{run, sum, most}
-use Rattle.scan.specs.RunLaws.{Stops, Split, split, run-all, at-is, sum-is}
+use Rattle.scan.specs.RunLaws.{split, at-is, sum-is}
 use Rattle.scan.specs.Registers.{registerOf}
 use Rattle.scan.specs.RegisterLaws.{RegisterAt, register-sound}
 use Rattle.scan.specs.declared.Register.{Register}
 use Rattle.scan.specs.declared.Register.the-variants as register
 use Rattle.shape.specs.Guard.{guardBy, guardOf}
-use Rattle.shape.specs.declared.GuardRead.{GuardRead}
 use Rattle.shape.specs.declared.GuardRead.the-variants.{Got, Bad}
 
 never : {A : Type 0} (p : ℕ) (g : Guarding) (n : ℕ) → Bad p ≡ Got g n → A
@@ -102,6 +101,7 @@ guard-sound w g n m e = go (eqb (getD w 0 0) 64) refl (eqb (getD w 1 0) 33) refl
   where
     at-sign : eqb (getD w 0 0) 64 ≡ true → w ≡ 64 ∷ drop 1 w
     at-sign q = at-is w 0 64 (omega arith) (eqb-true (getD w 0 0) 64 q)
+
     go : (t : Bool) → eqb (getD w 0 0) 64 ≡ t → (u : Bool) → eqb (getD w 1 0) 33 ≡ u
         → cond t (cond u (guardBy true 2 (registerOf (drop 2 w)) (drop 2 w)) (guardBy false 1 (registerOf (drop 1 w)) (drop 1 w))) (Got Unguarded 0) ≡ Got g n → GuardAt w g n
     go false q u r e = none-there w g n e

@@ -1,8 +1,8 @@
 -- The head at the front of a list, as the scanner finds it.
-use Prim.Native.Nat.{ℕ, suc, zero}
+use Prim.Native.Nat.{ℕ}
 use mathlib.Core.List.{List}
-use mathlib.Core.Bool.{Bool, true, false, cond}
-use lib.Dec.{ltb, leb, eqb}
+use mathlib.Core.Bool.{true, false, cond}
+use lib.Dec.{leb, eqb}
 use lib.ListN.{getD, take, set, replicate}
 use Rattle.base.specs.Bytes.{isNameByte}
 use Rattle.base.specs.Pack.{codeOf}

@@ -1,12 +1,12 @@
 -- Every head's text is read as its names.
 use Prim.Native.Nat.{ℕ, suc, zero, _+_, _≤_, _<_}
-use mathlib.Core.Path.{_≡_, refl, sym, ap, _∙_}
+use mathlib.Core.Path.{_≡_, refl, ap, _∙_}
 use mathlib.Core.List.{List, [], _∷_, _++_, append-assoc}
-use mathlib.Core.Bool.{Bool, true, false, cond}
+use mathlib.Core.Bool.{Bool, true, false}
 use native.Mathlib.Omega.{arith}
 use borrow.Author.Tests.{ne-eqb}
 use lib.Dec.{eqb}
-use lib.ListN.{length, getD, drop, take, length-append}
+use lib.ListN.{length, getD, length-append}
 use lib.Seq.{take-append-seam}
 use Rattle.base.specs.Bytes.{isNameByte}
 use Rattle.base.specs.Pack.{codeOf}
@@ -15,9 +15,9 @@ use Rattle.rules.specs.Grammar.{GoodName, GoodNames}
 use Rattle.rules.specs.Grammar.GoodNames.{none, more}
 use Rattle.tree.specs.Seen.{seenHead}
 use Rattle.tree.specs.declared.Head.{Head}
-use Rattle.scan.specs.Runs.{run, sum, most}
+use Rattle.scan.specs.Runs.{most}
 use Rattle.scan.specs.RunLaws.{Stops, run-all, seam, past, sum-is}
-use Rattle.shape.specs.Turns.{turns, mostTurns}
+use Rattle.shape.specs.Turns.{mostTurns}
 use Rattle.shape.specs.TurnLaws.{next-turn, last-turn}
 use Rattle.shape.specs.Head.{noHead, pushedName, nameBy, nameTurn, nameTurns, headOf}
 use Rattle.shape.specs.KeptLaws.{keptNames, kept-names}
@@ -77,7 +77,7 @@ read-from n ns r p s h zero g a z e l m = absurd (omega arith)
 read-from n [] r p s h (suc k) g none z e l m =
     let q : length (n ++ []) ≡ length n = simp length-append (omega arith) in
     let t : nameTurns (suc k) ((n ++ []) ++ r) (on p s h) ≡ over (p + length n) (length n) (pushedName h (codeOf n)) =
-        ap (λ (l : List ℕ). nameTurns (suc k) l (on p s h)) (append-assoc n [] r) ∙ last-name n r p s h k g z e (omega arith) in
+    ap (λ (l : List ℕ). nameTurns (suc k) l (on p s h)) (append-assoc n [] r) ∙ last-name n r p s h k g z e (omega arith) in
     record { good = ap (λ (x : Names). x .good) t; place = ap (λ (x : Names). x .place) t ∙ omega arith; head = ap (λ (x : Names). x .head) t }
 read-from n (v ∷ ns) r p s h (suc k) g (more b a) z e l m =
     let rest : List ℕ = v ++ dotted ns in
@@ -85,7 +85,7 @@ read-from n (v ∷ ns) r p s h (suc k) g (more b a) z e l m =
     let x : Head = pushedName h (codeOf n) in
     let i = read-from v ns r (p + length n + 1) (length n + 1) x k b a z e (omega arith) (omega arith) in
     let t : nameTurns (suc k) ((n ++ (46 ∷ rest)) ++ r) (on p s h) ≡ nameTurns k (rest ++ r) (on (p + length n + 1) (length n + 1) x) =
-        ap (λ (l : List ℕ). nameTurns (suc k) l (on p s h)) (append-assoc n (46 ∷ rest) r) ∙ next-name n (rest ++ r) p s h k g (omega arith) in
+    ap (λ (l : List ℕ). nameTurns (suc k) l (on p s h)) (append-assoc n (46 ∷ rest) r) ∙ next-name n (rest ++ r) p s h k g (omega arith) in
     record {
       good = ap (λ (y : Names). y .good) t ∙ i .good;
       place = ap (λ (y : Names). y .place) t ∙ i .place ∙ omega arith;

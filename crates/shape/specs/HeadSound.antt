@@ -1,13 +1,13 @@
 -- What the scanner of a head finds is a head's text.
-use Prim.Native.Nat.{ℕ, suc, zero, _+_, _≤_, _<_}
+use Prim.Native.Nat.{ℕ, suc, zero, _+_, _≤_}
 use mathlib.Core.Path.{_≡_, refl, sym, ap, _∙_, subst}
 use mathlib.Core.List.{List, [], _∷_, _++_, append-assoc, append-nil}
-use mathlib.Core.Bool.{Bool, true, false, cond}
+use mathlib.Core.Bool.{Bool, true, false}
 use native.Mathlib.Omega.{arith}
 use borrow.Author.Tests.{eqb-true}
 use lib.Dec.{eqb}
 use lib.ListN.{length, getD, drop, length-append}
-use Rattle.base.specs.Bytes.{isNameByte, All, Some}
+use Rattle.base.specs.Bytes.{isNameByte, All}
 use Rattle.base.specs.Bytes.All.{none as no-byte, more as byte-more}
 use Rattle.base.specs.Pack.{codeOf}
 use Rattle.rules.specs.Shape.{Name, dotted, headText}
@@ -15,17 +15,14 @@ use Rattle.rules.specs.Grammar.{GoodName, GoodNames}
 use Rattle.rules.specs.Grammar.GoodNames.{none, more}
 use Rattle.tree.specs.Seen.{seenHead}
 use Rattle.tree.specs.declared.Head.{Head}
-use Rattle.scan.specs.Runs.{run, most}
-use Rattle.scan.specs.RunLaws.{Stops, Split, split, run-all, at-is}
+use Rattle.scan.specs.Runs.{most}
+use Rattle.scan.specs.RunLaws.{not-so, Stops, split, run-all, at-is}
 use Rattle.shape.specs.Turns.{turns, mostTurns}
 use Rattle.shape.specs.TurnLaws.{last-turn}
 use Rattle.shape.specs.Head.{noHead, pushedName, nameBy, nameTurn, nameTurns, headOf}
-use Rattle.shape.specs.HeadLaws.{on, over, going, took, last-name, next-name, few-names}
+use Rattle.shape.specs.HeadLaws.{on, going, took, last-name, next-name, few-names}
 use Rattle.shape.specs.KeptLaws.{keptNames, kept-names}
 use Rattle.shape.specs.declared.Names.{Names}
-
-off : {A : Type 0} → false ≡ true → A
-off q = let z : _≡_ {A = ℕ} 0 1 = cc in absurd (omega arith)
 
 -- names stand at the front of w, which end a head of p bytes and of the names h
 record NamesAt (w : List ℕ) (p : ℕ) (h : Head) (st : Names) : Type 0 where
@@ -93,7 +90,7 @@ last-sound k n r g z e p s h m =
 
 by-name : (k : ℕ) → Sound k → (n r : List ℕ) → All isNameByte n → Stops isNameByte r → (t : Bool) → eqb (getD r 0 0) 46 ≡ t → (p s : ℕ) (h : Head) → p + length (n ++ r) ≤ most
     → nameTurns (suc k) (n ++ r) (on p s h) .good ≡ true → NamesAt (n ++ r) p h (nameTurns (suc k) (n ++ r) (on p s h))
-by-name k ih n r no-byte z t q p s h m e = off (sym (no-name r p s h k z) ∙ e)
+by-name k ih n r no-byte z t q p s h m e = not-so (sym (no-name r p s h k z) ∙ e)
 by-name k ih n r (byte-more x a) z false q p s h m e = last-sound k n r (record { all = byte-more x a; some = omega arith }) z q p s h m
 by-name k ih n r (byte-more x a) z true q p s h m e =
     let d : r ≡ 46 ∷ drop 1 r = at-is r 0 46 (omega arith) (eqb-true (getD r 0 0) 46 q) in
@@ -103,7 +100,7 @@ by-name k ih n r (byte-more x a) z true q p s h m e =
 
 sound-turns : (k : ℕ) → Sound k
 unfolding Sound turns
-sound-turns zero w p s h m e = off e
+sound-turns zero w p s h m e = not-so e
 sound-turns (suc k) w p s h m e =
     let x = split isNameByte refl w in
     subst (λ (y : List ℕ). p + length y ≤ most → nameTurns (suc k) y (on p s h) .good ≡ true → NamesAt y p h (nameTurns (suc k) y (on p s h))) (sym (x .whole))

@@ -4,10 +4,10 @@ use mathlib.Core.Path.{_≡_, refl, sym, ap, _∙_}
 use mathlib.Core.List.{List, [], _∷_, _++_, append-assoc, append-nil, map}
 use mathlib.Core.Bool.{Bool, true, false, cond}
 use native.Mathlib.Omega.{arith}
-use borrow.Author.Tests.{leb-true, leb-false}
-use lib.Dec.{leb}
-use lib.ListN.{length, take, set, replicate, length-append, length-map}
-use lib.Seq.{take-append-le, take-append-add, set-append-seam}
+use borrow.Author.Tests.{leb-true, leb-false, ltb-true, ltb-false}
+use lib.Dec.{leb, ltb}
+use lib.ListN.{length, getD, take, set, replicate, length-append, length-map, getD-replicate, List·getD-append, List·getD-eq-default}
+use lib.Seq.{take-append-le, take-append-add, set-append-seam, getD-take, getD-append-add}
 use Rattle.base.specs.Pack.{codeOf}
 use Rattle.rules.specs.Shape.{Name, OperandTree}
 use Rattle.tree.specs.Seen.{first, namesKept, operandsKept, spare, slot, seenHead, seenOperand, seenOperands}
@@ -31,10 +31,10 @@ module _ {A : Type 0} (past : A) where
   room k j ys x h =
       let r : List A = replicate k past in
       let a : first k past ys ≡ ys ++ (past ∷ replicate j past) =
-          ap (λ (n : ℕ). take n (ys ++ r)) h ∙ take-append-add ys r (suc j) ∙ ap (λ (l : List A). ys ++ l) (take-past (suc j) k (omega arith)) in
+      ap (λ (n : ℕ). take n (ys ++ r)) h ∙ take-append-add ys r (suc j) ∙ ap (λ (l : List A). ys ++ l) (take-past (suc j) k (omega arith)) in
       let b : first k past (ys ++ (x ∷ [])) ≡ ys ++ (x ∷ replicate j past) =
-          ap (take k) (append-assoc ys (x ∷ []) r) ∙ ap (λ (n : ℕ). take n (ys ++ (x ∷ r))) h ∙ take-append-add ys (x ∷ r) (suc j)
-          ∙ ap (λ (l : List A). ys ++ (x ∷ l)) (take-past j k (omega arith)) in
+      ap (take k) (append-assoc ys (x ∷ []) r) ∙ ap (λ (n : ℕ). take n (ys ++ (x ∷ r))) h ∙ take-append-add ys (x ∷ r) (suc j)
+      ∙ ap (λ (l : List A). ys ++ (x ∷ l)) (take-past j k (omega arith)) in
       ap (λ (l : List A). set l (length ys) x) a ∙ set-append-seam ys past (replicate j past) x ∙ sym b
 
   full : (k : ℕ) (ys : List A) (x : A) → k ≤ length ys → first k past ys ≡ first k past (ys ++ (x ∷ []))
@@ -108,3 +108,26 @@ kept-on ys (o ∷ os) h =
 pub kept-operands : (os : List OperandTree) → length os ≤ most → keptOperands noOperands os ≡ seenOperands os
 unfolding seenOperands
 kept-operands os h = kept-on [] os (omega arith) ∙ operands-same (length-map os slot) refl
+
+-- ---- what stands at a place of what is kept
+
+pub kept-at : {A : Type 0} (past : A) (k i : ℕ) (l : List A) → i < k → getD (first k past l) i past ≡ getD l i past
+kept-at past k i l h = getD-take k (l ++ replicate k past) i past h ∙ go (ltb i (length l)) refl
+  where
+    go : (t : Bool) → ltb i (length l) ≡ t → getD (l ++ replicate k past) i past ≡ getD l i past
+    go true e = List·getD-append l (replicate k past) past i (ltb-true i (length l) e)
+    go false e =
+        let j = ltb-false i (length l) e in
+        let q : i ≡ length l + (i - length l) = omega arith in
+        ap (λ (n : ℕ). getD (l ++ replicate k past) n past) q
+        ∙ getD-append-add l (replicate k past) (i - length l) past
+        ∙ getD-replicate k (i - length l) past past (omega arith)
+        ∙ sym (List·getD-eq-default l past j)
+
+pub name-at : (ns : List Name) (i : ℕ) → i < namesKept → getD (seenHead ns .at) i 0 ≡ getD (map codeOf ns) i 0
+unfolding seenHead
+name-at ns i h = kept-at 0 namesKept i (map codeOf ns) h
+
+pub operand-at : (os : List OperandTree) (i : ℕ) → i < operandsKept → getD (seenOperands os .at) i spare ≡ getD (map slot os) i spare
+unfolding seenOperands
+operand-at os i h = kept-at spare operandsKept i (map slot os) h

@@ -14,5 +14,6 @@ pub mod Guard
 pub mod GuardLaws
 pub mod GuardSound
 pub mod Line
+pub mod EndLaws
 pub mod Complete
 pub mod Sound

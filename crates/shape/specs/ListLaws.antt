@@ -1,29 +1,25 @@
 -- Every list of operands is read as those operands.
 use Prim.Native.Nat.{ℕ, suc, zero, _+_, _≤_, _<_}
-use mathlib.Core.Path.{_≡_, refl, sym, ap, _∙_}
+use mathlib.Core.Path.{_≡_, refl, ap, _∙_}
 use mathlib.Core.List.{List, [], _∷_, _++_, append-assoc, map}
-use mathlib.Core.Bool.{Bool, true, false, cond}
+use mathlib.Core.Bool.{Bool, true, false}
 use native.Mathlib.Omega.{arith}
 use lib.ListN.{length, getD, drop, length-append, length-map}
 use lib.Seq.{drop-append-seam, drop-append-add}
 use Rattle.base.specs.Bytes.{isBlank, All}
 use Rattle.rules.specs.Shape.{OperandTree, operandText}
-use Rattle.rules.specs.Grammar.{Divided, dividedText, GoodOperand, GoodDivided, GoodOthers}
+use Rattle.rules.specs.Grammar.{Divided, dividedText, GoodOperand, GoodOthers}
 use Rattle.rules.specs.Grammar.GoodOthers.{none, more}
 use Rattle.tree.specs.Seen.{seenOperand, seenOperands}
 use Rattle.tree.specs.declared.Operands.{Operands}
-use Rattle.scan.specs.Runs.{run, sum, most}
+use Rattle.scan.specs.Runs.{most}
 use Rattle.scan.specs.RunLaws.{Stops, run-all, sum-is}
-use Rattle.shape.specs.Turns.{turns, mostTurns}
+use Rattle.shape.specs.Turns.{mostTurns}
 use Rattle.shape.specs.TurnLaws.{next-turn, last-turn}
-use Rattle.shape.specs.Operand.{operandOf}
 use Rattle.shape.specs.OperandLaws.{Edge, edge-after, operand-complete, operand-first}
 use Rattle.shape.specs.Operands.{noOperands, pushedTree, dividerBy, dividerOf, dividedBy, operandBy, operandTurn, operandTurns, operandsOf}
 use Rattle.shape.specs.KeptLaws.{keptOperands, kept-operands}
-use Rattle.shape.specs.declared.OperandRead.{OperandRead}
-use Rattle.shape.specs.declared.OperandRead.the-variants as operand
-use Rattle.shape.specs.declared.Divider.{Divider}
-use Rattle.shape.specs.declared.Divider.the-variants.{Comma, Semicolon, Bad}
+use Rattle.shape.specs.declared.Divider.the-variants.{Comma, Semicolon}
 use Rattle.shape.specs.declared.Listed.{Listed}
 
 -- ---- what divides operands
@@ -66,7 +62,7 @@ took st = st .step
 
 pub last-operand : (t : OperandTree) (b r : List ℕ) (p s : ℕ) (o : Operands) (k : ℕ) → GoodOperand t → All isBlank b → p + length (operandText t) + (length b + 1) ≤ most
     → operandTurns (suc k) (operandText t ++ (b ++ (59 ∷ r))) (on p s o)
-        ≡ over (p + length (operandText t) + (length b + 1)) (length (operandText t) + (length b + 1)) (pushedTree o (seenOperand t))
+    ≡ over (p + length (operandText t) + (length b + 1)) (length (operandText t) + (length b + 1)) (pushedTree o (seenOperand t))
 last-operand t b r p s o k g x m =
     let n : ℕ = length (operandText t) in
     let d : List ℕ = b ++ (59 ∷ r) in
@@ -74,8 +70,8 @@ last-operand t b r p s o k g x m =
     let q : Operands = pushedTree o (seenOperand t) in
     let st : Listed = over (p + n + (length b + 1)) (n + (length b + 1)) q in
     let e : operandTurn w (on p s o) ≡ st =
-        turn-operand t d p s o g (edge-after 59 r (record { digit = refl; name = refl; bar = refl; dot = refl }) x) (omega arith)
-        ∙ ap (dividedBy p q n) (semicolon-found b r x (omega arith)) ∙ by-semicolon p q n (length b + 1) m in
+    turn-operand t d p s o g (edge-after 59 r (record { digit = refl; name = refl; bar = refl; dot = refl }) x) (omega arith)
+    ∙ ap (dividedBy p q n) (semicolon-found b r x (omega arith)) ∙ by-semicolon p q n (length b + 1) m in
     last-turn going took operandTurn k w (on p s o) st refl e refl
 
 -- past a comma with its blanks
@@ -86,7 +82,7 @@ past-comma b a r =
 
 pub next-operand : (t : OperandTree) (b a r : List ℕ) (p s : ℕ) (o : Operands) (k : ℕ) → GoodOperand t → All isBlank b → All isBlank a → Stops isBlank r → p + length (operandText t) + (length b + 1 + length a) ≤ most
     → operandTurns (suc k) (operandText t ++ (b ++ (44 ∷ (a ++ r)))) (on p s o)
-        ≡ operandTurns k r (on (p + length (operandText t) + (length b + 1 + length a)) (length (operandText t) + (length b + 1 + length a)) (pushedTree o (seenOperand t)))
+    ≡ operandTurns k r (on (p + length (operandText t) + (length b + 1 + length a)) (length (operandText t) + (length b + 1 + length a)) (pushedTree o (seenOperand t)))
 next-operand t b a r p s o k g x y z m =
     let n : ℕ = length (operandText t) in
     let c : ℕ = length b + 1 + length a in
@@ -95,8 +91,8 @@ next-operand t b a r p s o k g x y z m =
     let q : Operands = pushedTree o (seenOperand t) in
     let st : Listed = on (p + n + c) (n + c) q in
     let e : operandTurn w (on p s o) ≡ st =
-        turn-operand t d p s o g (edge-after 44 (a ++ r) (record { digit = refl; name = refl; bar = refl; dot = refl }) x) (omega arith)
-        ∙ ap (dividedBy p q n) (comma-found b a r x y z (omega arith)) ∙ by-comma p q n c m in
+    turn-operand t d p s o g (edge-after 44 (a ++ r) (record { digit = refl; name = refl; bar = refl; dot = refl }) x) (omega arith)
+    ∙ ap (dividedBy p q n) (comma-found b a r x y z (omega arith)) ∙ by-comma p q n c m in
     next-turn going took operandTurn k w (on p s o) st refl e
     ∙ ap (λ (l : List ℕ). operandTurns k l st) (drop-append-add (operandText t) d c ∙ past-comma b a r)
 
@@ -132,8 +128,8 @@ read-from t (d ∷ ds) b r p s o (suc k) g (more h a) x l m =
     let v : length (dividedText (d ∷ ds)) ≡ c + (length u + length (dividedText ds)) = divided-length (d .before) (d .after) u (dividedText ds) in
     let i = read-from (d .operand) ds b r (p + n + c) (n + c) (pushedTree o (seenOperand t)) k (h .operand) a x (omega arith) (omega arith) in
     let e =
-        ap (λ (z : List ℕ). operandTurns (suc k) (operandText t ++ z) (on p s o)) (divided-joined (d .before) (d .after) u (dividedText ds) (b ++ (59 ∷ r)))
-        ∙ next-operand t (d .before) (d .after) tail p s o k g (h .before) (h .after) (operand-first (d .operand) (dividedText ds ++ (b ++ (59 ∷ r)))) (omega arith) in
+    ap (λ (z : List ℕ). operandTurns (suc k) (operandText t ++ z) (on p s o)) (divided-joined (d .before) (d .after) u (dividedText ds) (b ++ (59 ∷ r)))
+    ∙ next-operand t (d .before) (d .after) tail p s o k g (h .before) (h .after) (operand-first (d .operand) (dividedText ds ++ (b ++ (59 ∷ r)))) (omega arith) in
     record {
       good = ap (λ (y : Listed). y .good) e ∙ i .good;
       place = ap (λ (y : Listed). y .place) e ∙ i .place ∙ omega arith;

@@ -1,8 +1,8 @@
 -- What the scanner of operands finds is a list of operands.
-use Prim.Native.Nat.{ℕ, suc, zero, _+_, _≤_, _<_}
+use Prim.Native.Nat.{ℕ, suc, zero, _+_, _≤_}
 use mathlib.Core.Path.{_≡_, refl, sym, ap, _∙_, subst}
-use mathlib.Core.List.{List, [], _∷_, _++_, append-assoc}
-use mathlib.Core.Bool.{Bool, true, false, cond}
+use mathlib.Core.List.{List, [], _∷_, _++_}
+use mathlib.Core.Bool.{Bool, true, false}
 use native.Mathlib.Omega.{arith}
 use borrow.Author.Tests.{eqb-true}
 use lib.Dec.{eqb}
@@ -10,29 +10,24 @@ use lib.ListN.{length, getD, drop, length-append, length-map}
 use lib.Seq.{drop-append-seam}
 use Rattle.base.specs.Bytes.{isBlank, All}
 use Rattle.rules.specs.Shape.{OperandTree, operandText}
-use Rattle.rules.specs.Grammar.{Divided, dividedText, GoodOperand, GoodDivided, GoodOthers}
+use Rattle.rules.specs.Grammar.{Divided, dividedText, GoodOperand, GoodOthers}
 use Rattle.rules.specs.Grammar.GoodOthers.{none, more}
 use Rattle.tree.specs.Seen.{seenOperand, seenOperands}
 use Rattle.tree.specs.declared.Tree.{Tree}
 use Rattle.tree.specs.declared.Operands.{Operands}
-use Rattle.scan.specs.Runs.{run, sum, most}
-use Rattle.scan.specs.RunLaws.{Stops, Split, split, run-all, at-is}
+use Rattle.scan.specs.Runs.{sum, most}
+use Rattle.scan.specs.RunLaws.{not-so, Stops, split, run-all, at-is}
 use Rattle.shape.specs.Turns.{turns, mostTurns}
 use Rattle.shape.specs.TurnLaws.{last-turn}
 use Rattle.shape.specs.Operand.{operandOf}
-use Rattle.shape.specs.OperandLaws.{operand-first}
-use Rattle.shape.specs.OperandSound.{OperandAt, operand-sound}
+use Rattle.shape.specs.OperandSound.{operand-sound}
 use Rattle.shape.specs.Operands.{noOperands, pushedTree, dividerBy, dividerOf, dividedBy, operandBy, operandTurn, operandTurns, operandsOf}
-use Rattle.shape.specs.ListLaws.{on, over, going, took, last-operand, next-operand, operandsIn, divided-joined, divided-length, few-operands}
+use Rattle.shape.specs.ListLaws.{on, going, took, last-operand, next-operand, operandsIn, divided-joined, divided-length, few-operands}
 use Rattle.shape.specs.KeptLaws.{keptOperands, kept-operands}
 use Rattle.shape.specs.declared.OperandRead.{OperandRead}
 use Rattle.shape.specs.declared.OperandRead.the-variants as operand
-use Rattle.shape.specs.declared.Divider.{Divider}
-use Rattle.shape.specs.declared.Divider.the-variants.{Comma, Semicolon, Bad}
+use Rattle.shape.specs.declared.Divider.the-variants.{Bad}
 use Rattle.shape.specs.declared.Listed.{Listed}
-
-off : {A : Type 0} → false ≡ true → A
-off q = let z : _≡_ {A = ℕ} 0 1 = cc in absurd (omega arith)
 
 -- operands stand at the front of w, with what ends them, which end a list of p bytes and of the operands o
 record ListAt (w : List ℕ) (p : ℕ) (o : Operands) (st : Listed) : Type 0 where
@@ -94,7 +89,7 @@ last-sound k t b r g a p s o m =
 -- an operand and a comma before operands
 joins : (k : ℕ) (t : OperandTree) (b a r : List ℕ) → GoodOperand t → All isBlank b → All isBlank a → Stops isBlank r → (p s : ℕ) (o : Operands) → p + length (operandText t) + (length b + 1 + length a) ≤ most
     → ListAt r (p + length (operandText t) + (length b + 1 + length a)) (pushedTree o (seenOperand t))
-      (operandTurns k r (on (p + length (operandText t) + (length b + 1 + length a)) (length (operandText t) + (length b + 1 + length a)) (pushedTree o (seenOperand t))))
+    (operandTurns k r (on (p + length (operandText t) + (length b + 1 + length a)) (length (operandText t) + (length b + 1 + length a)) (pushedTree o (seenOperand t))))
     → ListAt (operandText t ++ (b ++ (44 ∷ (a ++ r)))) p o (operandTurns (suc k) (operandText t ++ (b ++ (44 ∷ (a ++ r)))) (on p s o))
 joins k t b a r g x y z p s o m i =
     let e = next-operand t b a r p s o k g x y z m in
@@ -142,10 +137,10 @@ by-sign k ih t n b c g q l x z p s o false e true f m h =
 by-sign k ih t n b c g q l x z p s o false e false f m h =
     let w : List ℕ = operandText t ++ (b ++ c) in
     let d : drop n w ≡ b ++ c = ap (λ (i : ℕ). drop i w) l ∙ drop-append-seam (operandText t) (b ++ c) in
-    off (sym (nothing-divides w p s o k (seenOperand t) n (length b) (b ++ c) q d (no-divider (b ++ c) b c refl x z e f)) ∙ h)
+    not-so (sym (nothing-divides w p s o k (seenOperand t) n (length b) (b ++ c) q d (no-divider (b ++ c) b c refl x z e f)) ∙ h)
 
 by-operand : (k : ℕ) → Sound k → (w : List ℕ) (p s : ℕ) (o : Operands) (r : OperandRead) → operandOf w ≡ r → Claim k p s o w
-by-operand k ih w p s o (operand.Bad q) e m h = off (sym (no-operand w p s o k q e) ∙ h)
+by-operand k ih w p s o (operand.Bad q) e m h = not-so (sym (no-operand w p s o k q e) ∙ h)
 by-operand k ih w p s o (operand.Got t n) e m h =
     let a = operand-sound w t n (omega arith) e in
     let x = split isBlank refl (a .after) in
@@ -156,7 +151,7 @@ by-operand k ih w p s o (operand.Got t n) e m h =
 
 sound-turns : (k : ℕ) → Sound k
 unfolding Sound turns
-sound-turns zero w p s o m e = off e
+sound-turns zero w p s o m e = not-so e
 sound-turns (suc k) w p s o m e = by-operand k (sound-turns k) w p s o (operandOf w) refl m e
 
 pub record OperandsAt (w : List ℕ) (st : Listed) : Type 0 where

@@ -13,7 +13,6 @@ use Rattle.scan.specs.declared.Register.the-variants as register
 use Rattle.tree.specs.declared.Place.{Place}
 use Rattle.tree.specs.declared.Spot.{Spot}
 use Rattle.tree.specs.declared.Spot.the-variants.{At, Nothing}
-use Rattle.tree.specs.declared.Tree.{Tree}
 use Rattle.tree.specs.declared.Tree.the-variants.{Inverted, Pair, Bare, Part}
 use Rattle.shape.specs.declared.OperandRead.{OperandRead}
 use Rattle.shape.specs.declared.OperandRead.the-variants.{Got, Bad}

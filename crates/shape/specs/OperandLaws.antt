@@ -1,34 +1,30 @@
 -- Every operand's text is read as that operand.
-use Prim.Native.Nat.{ℕ, suc, zero, _+_, _≤_, _<_}
+use Prim.Native.Nat.{ℕ, _+_, _≤_}
 use mathlib.Core.Path.{_≡_, refl, sym, ap, _∙_, subst}
 use mathlib.Core.List.{List, [], _∷_, _++_, append-assoc}
-use mathlib.Core.Bool.{Bool, true, false, _||_, cond}
+use mathlib.Core.Bool.{Bool, true, false, _||_}
 use native.Mathlib.Omega.{arith}
 use borrow.Author.Tests.{ne-eqb, eqb-true}
 use lib.Dec.{eqb}
-use lib.ListN.{length, getD, drop, take, length-append}
+use lib.ListN.{length, getD, length-append}
 use lib.Seq.{take-append-seam}
-use Rattle.base.specs.Bytes.{isBlank, isDigit, isNameByte, All, Some}
+use Rattle.base.specs.Bytes.{isBlank, isDigit, isNameByte, All}
 use Rattle.base.specs.Bytes.All.{none, more}
 use Rattle.base.specs.Pack.{codeOf}
-use Rattle.base.specs.Text.{bytes}
-use Rattle.rules.specs.Executing as executing
 use Rattle.rules.specs.Shape.{Name, registerText, spotText, OperandTree, inverted, pair, bare, part, operandText}
 use Rattle.rules.specs.Shape as grammar
-use Rattle.rules.specs.Grammar.{GoodName, GoodPlace, GoodSpot, GoodOperand}
+use Rattle.rules.specs.Grammar.{GoodName, GoodSpot, GoodOperand}
 use Rattle.tree.specs.Seen.{seenPlace, seenSpot, seenOperand}
 use Rattle.tree.specs.declared.Place.{Place}
 use Rattle.tree.specs.declared.Spot.{Spot}
 use Rattle.tree.specs.declared.Spot.the-variants.{At, Nothing}
-use Rattle.tree.specs.declared.Tree.the-variants.{Inverted, Pair, Bare, Part}
-use Rattle.scan.specs.Runs.{run, sum, most}
+use Rattle.tree.specs.declared.Tree.the-variants.{Inverted, Pair, Part}
+use Rattle.scan.specs.Runs.{most}
 use Rattle.scan.specs.RunLaws.{Stops, run-all, seam, past, sum-is}
-use Rattle.scan.specs.Registers.{registerOf}
 use Rattle.scan.specs.RegisterLaws.{register-complete, register-first}
 use Rattle.shape.specs.Operand as mirror
 use Rattle.shape.specs.Operand.{operandOf, firstOf, afterBy, secondOf, secondBy, partOf}
-use Rattle.shape.specs.declared.OperandRead.{OperandRead}
-use Rattle.shape.specs.declared.OperandRead.the-variants.{Got, Bad}
+use Rattle.shape.specs.declared.OperandRead.the-variants.{Got}
 
 -- what may follow an operand: no digit, no name's byte, no bar, no dot
 pub record Edge (b : ℕ) : Type 0 where

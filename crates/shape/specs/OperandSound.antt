@@ -1,14 +1,14 @@
 -- What the scanner of an operand finds is an operand's text.
-use Prim.Native.Nat.{ℕ, suc, zero, _+_, _≤_, _<_}
-use mathlib.Core.Path.{_≡_, refl, sym, ap, _∙_, subst}
-use mathlib.Core.List.{List, [], _∷_, _++_, append-assoc}
+use Prim.Native.Nat.{ℕ, _+_, _≤_, _<_}
+use mathlib.Core.Path.{_≡_, refl, sym, ap, _∙_}
+use mathlib.Core.List.{List, [], _∷_, _++_}
 use mathlib.Core.Bool.{Bool, true, false, cond}
 use native.Mathlib.Omega.{arith}
 use borrow.Author.Tests.{ne-eqb, eqb-true}
 use lib.Dec.{eqb}
-use lib.ListN.{length, getD, drop, take, length-append}
+use lib.ListN.{length, getD, drop, length-append}
 use lib.Seq.{take-append-seam, drop-append-add}
-use Rattle.base.specs.Bytes.{isNameByte, All, Some}
+use Rattle.base.specs.Bytes.{isNameByte, All}
 use Rattle.base.specs.Bytes.All.{none, more}
 use Rattle.base.specs.Pack.{codeOf}
 use Rattle.rules.specs.Executing as executing
@@ -20,8 +20,8 @@ use Rattle.tree.specs.declared.Place.{Place}
 use Rattle.tree.specs.declared.Spot.the-variants.{At, Nothing}
 use Rattle.tree.specs.declared.Tree.{Tree}
 use Rattle.tree.specs.declared.Tree.the-variants.{Inverted, Pair, Bare, Part}
-use Rattle.scan.specs.Runs.{run, sum, most}
-use Rattle.scan.specs.RunLaws.{Stops, Split, split, run-all, seam, at-is, sum-is}
+use Rattle.scan.specs.Runs.{sum, most}
+use Rattle.scan.specs.RunLaws.{Stops, split, run-all, seam, at-is, sum-is}
 use Rattle.scan.specs.Registers.{registerOf}
 use Rattle.scan.specs.RegisterLaws.{RegisterAt, register-sound}
 use Rattle.scan.specs.declared.Register.{Register}
@@ -29,7 +29,6 @@ use Rattle.scan.specs.declared.Register.the-variants as register
 use Rattle.shape.specs.Operand as mirror
 use Rattle.shape.specs.Operand.{operandOf, firstOf, afterBy, secondOf, secondBy, partOf}
 use Rattle.shape.specs.OperandLaws.{joined, joined-length}
-use Rattle.shape.specs.declared.OperandRead.{OperandRead}
 use Rattle.shape.specs.declared.OperandRead.the-variants.{Got, Bad}
 
 pub record OperandAt (s : List ℕ) (o : Tree) (n : ℕ) : Type 0 where
@@ -61,6 +60,7 @@ second-sound s p k h w l o n e = go (eqb (getD (drop k s) 0 0) 95) refl (registe
   where
     text : (t : List ℕ) (r : List ℕ) → drop k s ≡ t ++ r → s ≡ (spotText p ++ (124 ∷ []) ++ t) ++ r
     text t r q = w ∙ ap (λ (l : List ℕ). spotText p ++ (124 ∷ l)) q ∙ sym (joined (spotText p) 124 t r)
+
     go : (t : Bool) → eqb (getD (drop k s) 0 0) 95 ≡ t → (x : Register) → registerOf (drop k s) ≡ x → cond t (Got (Pair (seenSpot p) Nothing) (k + 1)) (secondBy (seenSpot p) k x) ≡ Got o n → OperandAt s o n
     go true q x y e =
         is s (pair p grammar.nothing) (drop 1 (drop k s)) (k + 1) n o e (text (95 ∷ []) (drop 1 (drop k s)) (at-is (drop k s) 0 95 (omega arith) (eqb-true (getD (drop k s) 0 0) 95 q))) (h, tt)
@@ -101,6 +101,7 @@ after-sound s p k m a o n e = go (eqb (getD s k 0) 124) refl (eqb (getD s k 0) 4
   where
     r : Place
     r = seenPlace (a .place)
+
     go : (t : Bool) → eqb (getD s k 0) 124 ≡ t → (u : Bool) → eqb (getD s k 0) 46 ≡ u → cond t (secondOf (At r) (k + 1) s) (cond u (partOf r (k + 1) s) (Got (Bare r) k)) ≡ Got o n → OperandAt s o n
     go true q u v e = second-sound s (grammar.at (a .place)) (k + 1) (a .good) (after-is s p k 124 a (omega arith) (eqb-true (getD s k 0) 124 q)) (omega (arith, a .taken)) o n e
     go false q true v e =

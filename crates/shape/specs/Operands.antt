@@ -1,7 +1,7 @@
 -- The operands at the front of a list, as the scanner finds them.
-use Prim.Native.Nat.{ℕ, suc, zero}
+use Prim.Native.Nat.{ℕ}
 use mathlib.Core.List.{List}
-use mathlib.Core.Bool.{Bool, true, false, cond}
+use mathlib.Core.Bool.{true, false, cond}
 use lib.Dec.{leb, eqb}
 use lib.ListN.{getD, drop, set, replicate}
 use Rattle.base.specs.Bytes.{isBlank}

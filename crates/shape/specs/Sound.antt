@@ -1,24 +1,24 @@
 -- A line that is read has the shape, and the parts are what the reader keeps of its tree.
-use Prim.Native.Nat.{ℕ, suc, zero, _+_, _≤_, _<_}
+use Prim.Native.Nat.{ℕ, _+_, _≤_}
 use mathlib.Core.Path.{_≡_, refl, sym, ap, _∙_, subst}
 use mathlib.Core.List.{List, [], _∷_, _++_, append-nil}
 use mathlib.Core.Bool.{Bool, true, false, cond}
 use native.Mathlib.Omega.{arith}
 use borrow.Author.Tests.{ltb-false}
-use lib.Dec.{eqb, ltb}
-use lib.ListN.{length, getD, drop, length-append}
+use lib.Dec.{ltb}
+use lib.ListN.{length, drop, length-append}
 use lib.Seq.{drop-append-seam}
 use Rattle.base.specs.Bytes.{isBlank, All, Some}
 use Rattle.base.specs.Bytes.All.{none, more}
 use Rattle.rules.specs.Shape.{Name, headText, OperandTree, operandText}
-use Rattle.rules.specs.Grammar.{LineTree, Good, Shaped, GuardTree, guardTreeText, Divided, dividedText, GoodGuard, GoodName, GoodNames, GoodOperand, GoodOthers}
+use Rattle.rules.specs.Grammar.{LineTree, Shaped, GuardTree, guardTreeText, Divided, dividedText, GoodGuard, GoodName, GoodNames, GoodOperand, GoodOthers}
 use Rattle.tree.specs.Seen.{seen, seenGuard, seenHead, seenOperands}
 use Rattle.tree.specs.declared.Guarding.{Guarding}
 use Rattle.tree.specs.declared.Head.{Head}
 use Rattle.tree.specs.declared.Operands.{Operands}
 use Rattle.tree.specs.declared.Parts.{Parts}
 use Rattle.scan.specs.Runs.{run, sum}
-use Rattle.scan.specs.RunLaws.{Stops, Split, split, run-all}
+use Rattle.scan.specs.RunLaws.{not-so, Stops, Split, split, run-all}
 use Rattle.shape.specs.Head.{headOf}
 use Rattle.shape.specs.HeadSound.{HeadAt, head-sound}
 use Rattle.shape.specs.Operands.{operandsOf}
@@ -32,14 +32,11 @@ use Rattle.shape.specs.declared.GuardRead.{GuardRead}
 use Rattle.shape.specs.declared.GuardRead.the-variants.{Got, Bad}
 use Rattle.shape.specs.declared.Scanned.{Scanned}
 
-off : {A : Type 0} → false ≡ true → A
-off q = let z : _≡_ {A = ℕ} 0 1 = cc in absurd (omega arith)
-
 -- what is not refused is what was to be
 chosen : (t : Bool) (r : Scanned) (q : ℕ) → cond t r (refused q) .good ≡ true → (t ≡ true) × (cond t r (refused q) ≡ r)
 unfolding refused
 chosen true r q e = (refl, refl)
-chosen false r q e = off e
+chosen false r q e = not-so e
 
 -- ---- each stage, from the end
 
@@ -58,9 +55,10 @@ end-sound p x w e = go (ltb (run isBlank w) (length w)) refl e
   where
     s : Split isBlank w
     s = split isBlank refl w
+
     go : (t : Bool) → ltb (run isBlank w) (length w) ≡ t → cond t (refused (sum p (run isBlank w))) (record { good = true; place = sum p (run isBlank w); parts = x }) .good ≡ true
         → EndAt w x (cond t (refused (sum p (run isBlank w))) (record { good = true; place = sum p (run isBlank w); parts = x }))
-    go true q f = off f
+    go true q f = not-so f
     go false q f =
         let l : length w ≡ length (s .front ++ s .back) = ap length (s .whole) in
         let b : s .back ≡ [] = nothing-left (s .front) (s .back) (omega (arith, ltb-false (run isBlank w) (length w) q, s .count)) in
@@ -86,7 +84,7 @@ tail-from p g h w r i e good =
     let x : Parts = record { guard = g; head = h; operands = operandsOf w .operands } in
     let n : ℕ = length (operandText (i .first)) + length (dividedText (i .others)) + (length (i .ending) + 1) in
     let d : drop (operandsOf w .place) w ≡ i .after =
-        ap (λ (k : ℕ). drop k w) (i .place) ∙ ap (drop n) (i .whole) ∙ past-list (operandText (i .first)) (dividedText (i .others)) (i .ending) (i .after) in
+    ap (λ (k : ℕ). drop k w) (i .place) ∙ ap (drop n) (i .whole) ∙ past-list (operandText (i .first)) (dividedText (i .others)) (i .ending) (i .after) in
     let q : r ≡ fromEnd p x (i .after) = e ∙ ap (fromEnd p x) d in
     let j = end-sound p x (i .after) (sym (ap (λ (s : Scanned). s .good) q) ∙ good) in
     record {
@@ -123,7 +121,7 @@ unfolding fromGap refused
 no-gap p g h w z = rw (run-all isBlank w none z)
 
 by-gap : (p : ℕ) (g : Guarding) (h : Head) (a b : List ℕ) → All isBlank a → Stops isBlank b → length (a ++ b) ≤ 160 → fromGap p g h (a ++ b) .good ≡ true → GapAt (a ++ b) g h (fromGap p g h (a ++ b))
-by-gap p g h a b none z m e = off (sym (no-gap p g h b z) ∙ e)
+by-gap p g h a b none z m e = not-so (sym (no-gap p g h b z) ∙ e)
 by-gap p g h a b (more x y) z m e =
     let some : Some isBlank a = record { all = more x y; some = omega arith } in
     let q = after-gap p g h a b some z in
@@ -182,7 +180,7 @@ guard-from p w g n r m i e good =
 
 guard-stage : (p : ℕ) (w : List ℕ) → length w ≤ 160 → (x : GuardRead) → guardOf w ≡ x → guardedBy p x w .good ≡ true → GuardFrom w (guardedBy p x w)
 unfolding guardedBy refused
-guard-stage p w m (Bad q) d e = off e
+guard-stage p w m (Bad q) d e = not-so e
 guard-stage p w m (Got g n) d e = guard-from (sum p n) w g n (guardedBy p (Got g n) w) m (guard-sound w g n m d) refl e
 
 -- ---- the line
@@ -202,7 +200,7 @@ line-from a b r x i =
     let gap-is : j .tail ≡ from-gap = k .whole ∙ ap (λ (y : List ℕ). k .gap ++ y) (l .whole) in
     let head-is : i .tail ≡ headText (j .name ∷ j .others) ++ from-gap = j .whole ∙ ap (λ (y : List ℕ). headText (j .name ∷ j .others) ++ y) gap-is in
     let guard-is : a ++ b ≡ a ++ (guardTreeText (i .tree) ++ (headText (j .name ∷ j .others) ++ from-gap)) =
-        ap (λ (y : List ℕ). a ++ y) (i .whole ∙ ap (λ (y : List ℕ). guardTreeText (i .tree) ++ y) head-is) in
+    ap (λ (y : List ℕ). a ++ y) (i .whole ∙ ap (λ (y : List ℕ). guardTreeText (i .tree) ++ y) head-is) in
     record {
       tree = record { before = a; guard = i .tree; opcode = j .name; modifiers = j .others; gap = k .gap; first = l .first; others = l .others; ending = l .ending; behind = l .behind };
       shaped = record {

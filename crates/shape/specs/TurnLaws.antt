@@ -1,10 +1,10 @@
 -- Laws of a loop of turns.
 use Prim.Native.Nat.{ℕ, suc, zero, _+_, _-_, _≤_, _<_}
 use mathlib.Core.Path.{_≡_, refl, sym, ap, _∙_}
-use mathlib.Core.Bool.{Bool, true, false, cond}
+use mathlib.Core.Bool.{Bool, true, false}
 use mathlib.Core.List.{List}
 use native.Mathlib.Omega.{arith}
-use lib.ListN.{drop}
+use lib.ListN.{length, drop}
 use Rattle.shape.specs.Turns.{turns}
 
 module _ {St : Type 0} (more : St → Bool) (step : St → ℕ) (turn : List ℕ → St → St) where
@@ -39,3 +39,15 @@ module _ {St : Type 0} (more : St → Bool) (step : St → ℕ) (turn : List ℕ
   runs-out whole k i w st h q =
       let n : k - i ≡ 0 = omega arith in
       sym (q ∙ ap (λ (j : ℕ). turns more step turn j w st) n)
+
+  -- where each turn that goes on leaves fewer bytes, as many turns as bytes and one more are enough
+  pub enough : ((w : List ℕ) (st : St) → more (turn w st) ≡ true → length (drop (step (turn w st)) w) < length w) → (k : ℕ) (w : List ℕ) (st : St) → length w < k → more (turns more step turn k w st) ≡ false
+  enough less zero w st h = absurd (omega arith)
+  enough less (suc k) w st h = go (more st) refl (more (turn w st)) refl (enough less k (drop (step (turn w st)) w) (turn w st))
+    where
+      go : (t : Bool) → more st ≡ t → (u : Bool) → more (turn w st) ≡ u
+          → (length (drop (step (turn w st)) w) < k → more (turns more step turn k (drop (step (turn w st)) w) (turn w st)) ≡ false)
+          → more (turns more step turn (suc k) w st) ≡ false
+      go false e u f i = ap more (no-turn (suc k) w st e) ∙ e
+      go true e false f i = ap more (one-turn k w st e ∙ no-turn k (drop (step (turn w st)) w) (turn w st) f) ∙ f
+      go true e true f i = ap more (one-turn k w st e) ∙ i (omega (arith, less w st f))

@@ -115,13 +115,16 @@ fn part(p: Place, n: u32, s: &[u8]) -> OperandRead
 // How many names of a head are kept.
 const NAMES_KEPT: usize = 8;
 
-// A turn of a loop takes a byte at least, and a line has at most 160.
+// A turn that goes on takes a byte at least, and a line has at most 160.
 const MOST_TURNS: usize = 161;
 
 fn no_head() -> Head
     ensures { λ r. ⌜ r ≡ noHead ⌝ }
 {
-    Head { n: 0, at: [0; 8] }
+    Head {
+        n: 0,
+        at: [0; NAMES_KEPT],
+    }
 }
 
 fn pushed_name(h: Head, code: u64) -> Head
@@ -137,8 +140,7 @@ fn pushed_name(h: Head, code: u64) -> Head
     Head { n: count, at }
 }
 
-// How far a head is read: whether a name must follow, whether the head is whole, how many bytes it took, how many of them in the last
-// turn, and the names so far.
+// How far a head is read: `place` bytes, `step` of them in the last turn; `more` while a name must follow, `good` once it is whole.
 struct Names {
     more: bool,
     good: bool,
@@ -232,7 +234,7 @@ fn no_operands() -> Operands
     };
     Operands {
         n: 0,
-        at: [spare; 5],
+        at: [spare; OPERANDS_KEPT],
     }
 }
 
@@ -249,8 +251,7 @@ fn pushed_tree(o: Operands, tree: Tree) -> Operands
     Operands { n: count, at }
 }
 
-// What stands after an operand, with its length: optional blanks and a comma with optional blanks behind it, or a semicolon; or the place of
-// the first byte that is wrong.
+// What divides an operand from the next, or ends the list, with the blanks around it and its length; or the place of a wrong byte.
 enum Divider {
     Comma(usize),
     Semicolon(usize),

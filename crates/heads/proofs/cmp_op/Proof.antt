@@ -1,5 +1,4 @@
-use Rattle.heads.specs.Tables.{cmpBy}
-use Rattle.heads.specs.Tables.{cmpOf}
+use Rattle.heads.specs.Tables.{cmpBy, cmpOf}
 use borrow.Author.Needs.{needs}
 use Rattle.heads.proofs.cmp_op.Statement.{statement}
 use Rattle.heads.proofs.cmp_op.Tie as tie

@@ -1,5 +1,12 @@
-use Rattle.heads.specs.Rows.{rowBy}
-use Rattle.heads.specs.Rows.{rowOf}
+use mathlib.Core.Path.{_≡_}
+use contract.Lifetimes.{Lfts}
+use borrow.Fn.Kinds.{Dens, endedOf}
+use denote.Triple.Clauses.{AtExit}
+use Rattle.base.specs.Promise.{one-outcome}
+use Rattle.heads.specs.declared.Found.{Found}
+use Rattle.heads.proofs.row.Reads as reads
+use Rattle.heads.proofs.row.Kinds as kinds
+use Rattle.heads.specs.Rows.{rowBy, rowOf}
 use borrow.Author.Needs.{needs}
 use Rattle.heads.proofs.row.Statement.{statement}
 use Rattle.heads.proofs.row.Tie as tie
@@ -42,3 +49,9 @@ row-spec =
     enum-told
     returns
     returns-2)
+
+-- no two outcomes satisfy the contract as it stands in src/lib.rt
+pub row-one-outcome :
+    (κs : Lfts 0) (a : Dens κs kinds.ps) (x y : Found) (s t : AtExit (endedOf 0 kinds.ps kinds.r) κs)
+    → reads.Post κs a x s → reads.Post κs a y t → x ≡ y
+row-one-outcome κs a x y s t p q = one-outcome p q

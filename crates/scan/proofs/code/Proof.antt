@@ -1,4 +1,4 @@
-use Prim.Native.Nat.{ℕ, _≤_, _+_, _-_, _*_}
+use Prim.Native.Nat.{ℕ, _≤_, _+_, _*_}
 use mathlib.Core.Path.{_≡_, sym, ap, _∙_}
 use native.Mathlib.Omega.{arith}
 use borrow.Author.Needs.{needs}
@@ -9,9 +9,6 @@ use Rattle.base.specs.Pack.{pack}
 use Rattle.scan.specs.CodeLaws.{pack-rest, pack-turn, pack-end, code-long}
 use Rattle.scan.proofs.code.Statement.{statement}
 use Rattle.scan.proofs.code.Tie as tie
-use Rattle.scan.proofs.code.Reads as reads
-use Rattle.scan.proofs.code.Lts as lts
-use Rattle.scan.proofs.name_digit.Reads as name-digit-reads
 
 -- what is passed, from the last byte on, is packed
 abbrev Inv-loop : tie.InvT-loop

@@ -3,17 +3,13 @@ use borrow.Author.Tests.{eq-eqb, ne-eqb}
 use borrow.Author.Needs.{needs}
 use Rattle.scan.proofs.number_by.Statement.{statement}
 use Rattle.scan.proofs.number_by.Tie as tie
-use Rattle.scan.proofs.number_by.Reads as reads
-use Rattle.scan.proofs.number_by.Lts as lts
 
--- src/lib.rt:157:9
 returns : tie.Need-returns
 unfolding numberBy
 returns c =
     simp
     (eq-eqb _ _ (c .if1 .taken))
 
--- src/lib.rt:161:13
 returns-2 : tie.Need-returns-2
 unfolding numberBy
 returns-2 c =
@@ -23,7 +19,6 @@ returns-2 c =
       ne-eqb _ _ (c .before .before .if1 .left),
     )
 
--- src/lib.rt:163:9
 returns-3 : tie.Need-returns-3
 unfolding numberBy
 returns-3 c =
@@ -33,7 +28,6 @@ returns-3 c =
       ne-eqb _ _ (c .before .before .if1 .left),
     )
 
--- src/lib.rt:166:9
 returns-4 : tie.Need-returns-4
 unfolding numberBy
 returns-4 c =
@@ -43,15 +37,12 @@ returns-4 c =
       ne-eqb _ _ (c .before .before .if1 .left),
     )
 
--- src/lib.rt:169:28
 mul-t9 : tie.Need-mul-t9
 mul-t9 c = search needs
 
--- src/lib.rt:169:28
 add-t11 : tie.Need-add-t11
 add-t11 c = search needs
 
--- src/lib.rt:169:9
 returns-5 : tie.Need-returns-5
 unfolding numberBy
 returns-5 c =
@@ -62,23 +53,18 @@ returns-5 c =
       ne-eqb _ _ (c .before .before .before .if1 .left),
     )
 
--- src/lib.rt:172:28
 mul-t13 : tie.Need-mul-t13
 mul-t13 c = search needs
 
--- src/lib.rt:172:47
 mul-t15 : tie.Need-mul-t15
 mul-t15 c = search needs
 
--- src/lib.rt:172:28
 add-t16 : tie.Need-add-t16
 add-t16 c = search needs
 
--- src/lib.rt:172:28
 add-t18 : tie.Need-add-t18
 add-t18 c = search needs
 
--- src/lib.rt:172:9
 returns-6 : tie.Need-returns-6
 unfolding numberBy
 returns-6 c =
@@ -90,7 +76,6 @@ returns-6 c =
       ne-eqb _ _ (c .before .before .before .before .if1 .left),
     )
 
--- src/lib.rt:153:1
 returns-7 : tie.Need-returns-7
 unfolding numberBy
 returns-7 c =

@@ -1,34 +1,26 @@
 use borrow.Author.Needs.{needs}
 use Rattle.scan.proofs.place_in.Statement.{statement}
 use Rattle.scan.proofs.place_in.Tie as tie
-use Rattle.scan.proofs.place_in.Reads as reads
-use Rattle.scan.proofs.place_in.Lts as lts
 
--- src/lib.rt:252:36
 enum-told : tie.Need-enum-told
 enum-told c = search needs
 
--- src/lib.rt:253:40
 enum-told-2 : tie.Need-enum-told-2
 enum-told-2 c = search needs
 
--- src/lib.rt:254:36
 enum-told-3 : tie.Need-enum-told-3
 enum-told-3 c = search needs
 
--- src/lib.rt:248:1
 returns : tie.Need-returns
 returns c =
     simp
     (c .enum-told .given .1)
 
--- src/lib.rt:248:1
 returns-2 : tie.Need-returns-2
 returns-2 c =
     simp
     (c .enum-told2 .given .1)
 
--- src/lib.rt:248:1
 returns-3 : tie.Need-returns-3
 returns-3 c =
     simp

@@ -2,17 +2,13 @@ use Rattle.scan.specs.Registers.{prefixBy}
 use borrow.Author.Tests.{eq-eqb, ne-eqb}
 use Rattle.scan.proofs.prefix_by.Statement.{statement}
 use Rattle.scan.proofs.prefix_by.Tie as tie
-use Rattle.scan.proofs.prefix_by.Reads as reads
-use Rattle.scan.proofs.prefix_by.Lts as lts
 
--- src/lib.rt:203:9
 returns : tie.Need-returns
 unfolding prefixBy
 returns c =
     simp
     (ne-eqb _ _ (c .if1 .taken))
 
--- src/lib.rt:206:9
 returns-2 : tie.Need-returns-2
 unfolding prefixBy
 returns-2 c =
@@ -21,7 +17,6 @@ returns-2 c =
       eq-eqb _ _ (c .before .if1 .left),
     )
 
--- src/lib.rt:209:9
 returns-3 : tie.Need-returns-3
 unfolding prefixBy
 returns-3 c =
@@ -31,7 +26,6 @@ returns-3 c =
       eq-eqb _ _ (c .before .before .if1 .left),
     )
 
--- src/lib.rt:212:9
 returns-4 : tie.Need-returns-4
 unfolding prefixBy
 returns-4 c =
@@ -42,7 +36,6 @@ returns-4 c =
       eq-eqb _ _ (c .before .before .before .if1 .left),
     )
 
--- src/lib.rt:199:1
 returns-5 : tie.Need-returns-5
 unfolding prefixBy
 returns-5 c =

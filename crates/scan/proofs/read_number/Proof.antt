@@ -2,46 +2,31 @@ use Rattle.scan.specs.Numbers.{numberOf}
 use borrow.Author.Needs.{needs}
 use Rattle.scan.proofs.read_number.Statement.{statement}
 use Rattle.scan.proofs.read_number.Tie as tie
-use Rattle.scan.proofs.read_number.Reads as reads
-use Rattle.scan.proofs.read_number.Lts as lts
-use Rattle.scan.proofs.byte.Reads as byte-reads
-use Rattle.scan.proofs.digit.Reads as digit-reads
-use Rattle.scan.proofs.number_by.Reads as number-by-reads
-use Rattle.scan.proofs.run_len.Reads as run-len-reads
 
--- src/lib.rt:143:9
 run-len-requires : tie.Need-run-len-requires
 run-len-requires c κs = search needs
 
--- src/lib.rt:144:19
 byte-requires : tie.Need-byte-requires
 byte-requires c κs = search needs
 
--- src/lib.rt:144:9
 digit-requires : tie.Need-digit-requires
 digit-requires c κs = search needs
 
--- src/lib.rt:145:19
 byte-requires-2 : tie.Need-byte-requires-2
 byte-requires-2 c κs = search needs
 
--- src/lib.rt:145:9
 digit-requires-2 : tie.Need-digit-requires-2
 digit-requires-2 c κs = search needs
 
--- src/lib.rt:146:19
 byte-requires-3 : tie.Need-byte-requires-3
 byte-requires-3 c κs = search needs
 
--- src/lib.rt:146:9
 digit-requires-3 : tie.Need-digit-requires-3
 digit-requires-3 c κs = search needs
 
--- src/lib.rt:147:5
 number-by-requires : tie.Need-number-by-requires
 number-by-requires c κs = search needs
 
--- src/lib.rt:140:1
 returns : tie.Need-returns
 unfolding numberOf
 returns c =

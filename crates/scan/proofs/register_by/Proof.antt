@@ -2,48 +2,34 @@ use Rattle.scan.specs.Registers.{registerBy}
 use borrow.Author.Needs.{needs}
 use Rattle.scan.proofs.register_by.Statement.{statement}
 use Rattle.scan.proofs.register_by.Tie as tie
-use Rattle.scan.proofs.register_by.Reads as reads
-use Rattle.scan.proofs.register_by.Lts as lts
-use Rattle.scan.proofs.numbered.Reads as numbered-reads
-use Rattle.scan.proofs.read_number.Reads as read-number-reads
-use Rattle.scan.proofs.rest.Reads as rest-reads
 
--- src/lib.rt:232:21
 enum-known-p : tie.Need-enum-known-p
 enum-known-p c = search needs
 
--- src/lib.rt:232:45
 cast-t7 : tie.Need-cast-t7
 cast-t7 c = search needs
 
--- src/lib.rt:233:20
 enum-known-p-2 : tie.Need-enum-known-p-2
 enum-known-p-2 c = search needs
 
--- src/lib.rt:233:64
 cast-rest : tie.Need-cast-rest
 cast-rest c = search needs
 
--- src/lib.rt:233:56
 rest-requires : tie.Need-rest-requires
 rest-requires c κs = search needs
 
--- src/lib.rt:233:44
 read-number-requires : tie.Need-read-number-requires
 read-number-requires c κs = search needs
 
--- src/lib.rt:233:29
 numbered-requires : tie.Need-numbered-requires
 numbered-requires c κs = search needs
 
--- src/lib.rt:228:1
 returns : tie.Need-returns
 unfolding registerBy
 returns c =
     simp
     (c .before .p .given .1)
 
--- src/lib.rt:228:1
 returns-2 : tie.Need-returns-2
 unfolding registerBy
 returns-2 c =

@@ -6,30 +6,22 @@ use native.Mathlib.Nat.{le-of-lt}
 use borrow.Author.Needs.{needs}
 use Rattle.scan.proofs.rest.Statement.{statement}
 use Rattle.scan.proofs.rest.Tie as tie
-use Rattle.scan.proofs.rest.Reads as reads
-use Rattle.scan.proofs.rest.Lts as lts
 
--- src/lib.rt:20:23
 sub-result : tie.Need-sub-result
 sub-result c = search needs
 
--- src/lib.rt:20:23
 part-result-start : tie.Need-part-result-start
 part-result-start c = search needs
 
--- src/lib.rt:20:23
 part-result-end : tie.Need-part-result-end
 part-result-end c = search needs
 
--- src/lib.rt:20:40
 slice-aggregate-result : tie.Need-slice-aggregate-result
 slice-aggregate-result c = search needs
 
--- src/lib.rt:17:1
 returns : tie.Need-returns
 returns c = part-rest (c .before .before .args .n) (now (c .before .before .args .s))
 
--- src/lib.rt:17:1
 returns-2 : tie.Need-returns-2
 returns-2 c = sym (drop-of-length-le (now (c .before .before .args .s)) (le-of-lt (c .before .if1 .left)))
 

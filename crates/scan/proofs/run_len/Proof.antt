@@ -5,14 +5,10 @@ use mathlib.Core.Path.{_≡_, sym, _∙_}
 use native.Mathlib.Omega.{arith}
 use borrow.Author.Needs.{needs}
 use borrow.Author.Tests.{not-true, not-false}
-use lib.ListN.{length, drop, drop-of-length-le}
-use lib.Seq.{drop-length}
+use lib.ListN.{length, drop}
 use Rattle.scan.specs.Runs.{run, inClass}
 use Rattle.scan.proofs.run_len.Statement.{statement}
 use Rattle.scan.proofs.run_len.Tie as tie
-use Rattle.scan.proofs.run_len.Reads as reads
-use Rattle.scan.proofs.run_len.Lts as lts
-use Rattle.scan.proofs.in_class.Reads as in-class-reads
 
 abbrev Inv-loop : tie.InvT-loop
 Inv-loop c s i₀ i = (i ≤ length s) × (run (inClass c) s ≡ i + run (inClass c) (drop i s))
@@ -20,35 +16,27 @@ Inv-loop c s i₀ i = (i ≤ length s) × (run (inClass c) s ≡ i + run (inClas
 abbrev μ-loop : tie.MeasureT-loop
 μ-loop c s i₀ i = length s - i
 
--- src/lib.rt:74:5
 loop-holds : tie.Need-loop-holds Inv-loop μ-loop
 loop-holds c = omega arith
 
--- src/lib.rt:75:25
 shared-slice-read-in-class : tie.Need-shared-slice-read-in-class Inv-loop μ-loop
 shared-slice-read-in-class c = omega arith
 
--- src/lib.rt:75:13
 in-class-requires : tie.Need-in-class-requires Inv-loop μ-loop
 in-class-requires c κs = search needs
 
--- src/lib.rt:76:13
 returns : tie.Need-returns Inv-loop μ-loop
 returns c = let a = c .before .before .before .before .before .before .args in run-stops (inClass (a .c)) (now (a .s)) (c .before .before .before .before .loop .i) (omega arith) (sym (c .before .in-class .ensures) ∙ not-true _ (c .if1 .taken)) (c .before .before .before .before .loop .inv .1)
 
--- src/lib.rt:78:9
 add-i : tie.Need-add-i Inv-loop μ-loop
 add-i c = omega arith
 
--- src/lib.rt:74:5
 loop-less : tie.Need-loop-less Inv-loop μ-loop
 loop-less c = omega arith
 
--- src/lib.rt:74:5
 loop-again : tie.Need-loop-again Inv-loop μ-loop
 loop-again c = let a = c .before .before .before .before .before .before .args in (omega arith, run-turns (inClass (a .c)) (now (a .s)) (c .before .before .before .before .loop .i) (omega arith) (sym (c .before .in-class .ensures) ∙ not-false _ (c .if1 .left)) (c .before .before .before .before .loop .inv .1))
 
--- src/lib.rt:70:1
 returns-2 : tie.Need-returns-2 Inv-loop μ-loop
 returns-2 c = let a = c .before .before .before .args in run-ends (inClass (a .c)) (now (a .s)) (c .before .loop .i) (omega arith) (c .before .loop .inv .1)
 

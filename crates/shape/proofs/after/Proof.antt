@@ -3,51 +3,43 @@ use borrow.Author.Tests.{eq-eqb, ne-eqb}
 use borrow.Author.Needs.{needs}
 use Rattle.shape.proofs.after.Statement.{statement}
 use Rattle.shape.proofs.after.Tie as tie
-use Rattle.shape.proofs.after.Reads as reads
-use Rattle.shape.proofs.after.Lts as lts
-use Rattle.shape.proofs.part.Reads as part-reads
-use Rattle.shape.proofs.second.Reads as second-reads
 
--- src/lib.rt:72:36
 add-second : tie.Need-add-second
 add-second c = search needs
 
--- src/lib.rt:72:9
 second-requires : tie.Need-second-requires
 second-requires c κs = search needs
 
--- src/lib.rt:72:9
 returns : tie.Need-returns
 unfolding afterBy
 returns c =
-    simp
-    (c .second .ensures,
-    eq-eqb _ _ (c .before .if1 .taken))
+    simp (
+      c .second .ensures,
+      eq-eqb _ _ (c .before .if1 .taken),
+    )
 
--- src/lib.rt:75:24
 add-part : tie.Need-add-part
 add-part c = search needs
 
--- src/lib.rt:75:9
 part-requires : tie.Need-part-requires
 part-requires c κs = search needs
 
--- src/lib.rt:75:9
 returns-2 : tie.Need-returns-2
 unfolding afterBy
 returns-2 c =
-    simp
-    (c .part .ensures,
-    eq-eqb _ _ (c .before .if2 .taken),
-    ne-eqb _ _ (c .before .before .if1 .left))
+    simp (
+      c .part .ensures,
+      eq-eqb _ _ (c .before .if2 .taken),
+      ne-eqb _ _ (c .before .before .if1 .left),
+    )
 
--- src/lib.rt:68:1
 returns-3 : tie.Need-returns-3
 unfolding afterBy
 returns-3 c =
-    simp
-    (ne-eqb _ _ (c .if2 .left),
-    ne-eqb _ _ (c .before .if1 .left))
+    simp (
+      ne-eqb _ _ (c .if2 .left),
+      ne-eqb _ _ (c .before .if1 .left),
+    )
 
 pub after-spec : {M : Type 1} → statement M
 after-spec =

@@ -2,47 +2,34 @@ use Rattle.shape.specs.Operands.{dividedBy}
 use borrow.Author.Needs.{needs}
 use Rattle.shape.proofs.divided_by.Statement.{statement}
 use Rattle.shape.proofs.divided_by.Tie as tie
-use Rattle.shape.proofs.divided_by.Reads as reads
-use Rattle.shape.proofs.divided_by.Lts as lts
-use Rattle.scan.proofs.further.Reads as further-reads
 
--- src/lib.rt:357:9
 further-requires : tie.Need-further-requires
 further-requires c κs = search needs
 
--- src/lib.rt:359:24
 enum-known-d : tie.Need-enum-known-d
 enum-known-d c = search needs
 
--- src/lib.rt:362:20
 further-requires-2 : tie.Need-further-requires-2
 further-requires-2 c κs = search needs
 
--- src/lib.rt:363:19
 further-requires-3 : tie.Need-further-requires-3
 further-requires-3 c κs = search needs
 
--- src/lib.rt:366:28
 enum-known-d-2 : tie.Need-enum-known-d-2
 enum-known-d-2 c = search needs
 
--- src/lib.rt:369:20
 further-requires-4 : tie.Need-further-requires-4
 further-requires-4 c κs = search needs
 
--- src/lib.rt:370:19
 further-requires-5 : tie.Need-further-requires-5
 further-requires-5 c κs = search needs
 
--- src/lib.rt:373:22
 enum-known-d-3 : tie.Need-enum-known-d-3
 enum-known-d-3 c = search needs
 
--- src/lib.rt:376:20
 further-requires-6 : tie.Need-further-requires-6
 further-requires-6 c κs = search needs
 
--- src/lib.rt:354:1
 returns : tie.Need-returns
 unfolding dividedBy
 returns c =
@@ -53,7 +40,6 @@ returns c =
       c .before .before .before .before .before .further .ensures,
     )
 
--- src/lib.rt:354:1
 returns-2 : tie.Need-returns-2
 unfolding dividedBy
 returns-2 c =
@@ -64,7 +50,6 @@ returns-2 c =
       c .before .before .before .before .before .further .ensures,
     )
 
--- src/lib.rt:354:1
 returns-3 : tie.Need-returns-3
 unfolding dividedBy
 returns-3 c =

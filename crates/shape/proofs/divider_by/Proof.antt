@@ -3,19 +3,13 @@ use borrow.Author.Tests.{eq-eqb, ne-eqb}
 use borrow.Author.Needs.{needs}
 use Rattle.shape.proofs.divider_by.Statement.{statement}
 use Rattle.shape.proofs.divider_by.Tie as tie
-use Rattle.shape.proofs.divider_by.Reads as reads
-use Rattle.shape.proofs.divider_by.Lts as lts
-use Rattle.scan.proofs.further.Reads as further-reads
 
--- src/lib.rt:274:9
 further-requires : tie.Need-further-requires
 further-requires c κs = search needs
 
--- src/lib.rt:276:31
 further-requires-2 : tie.Need-further-requires-2
 further-requires-2 c κs = search needs
 
--- src/lib.rt:276:9
 returns : tie.Need-returns
 unfolding dividerBy
 returns c =
@@ -25,7 +19,6 @@ returns c =
       c .before .before .further .ensures,
     )
 
--- src/lib.rt:279:9
 returns-2 : tie.Need-returns-2
 unfolding dividerBy
 returns-2 c =
@@ -35,14 +28,12 @@ returns-2 c =
       c .before .before .further .ensures,
     )
 
--- src/lib.rt:271:1
 returns-3 : tie.Need-returns-3
 unfolding dividerBy
 returns-3 c =
     simp (
       ne-eqb _ _ (c .if2 .left),
       ne-eqb _ _ (c .before .if1 .left),
-      c .before .before .further .ensures,
     )
 
 pub divider-by-spec : {M : Type 1} → statement M

@@ -2,45 +2,34 @@ use Rattle.shape.specs.Operand.{firstOf}
 use borrow.Author.Needs.{needs}
 use Rattle.shape.proofs.first.Statement.{statement}
 use Rattle.shape.proofs.first.Tie as tie
-use Rattle.shape.proofs.first.Reads as reads
-use Rattle.shape.proofs.first.Lts as lts
-use Rattle.scan.proofs.byte.Reads as byte-reads
-use Rattle.shape.proofs.after.Reads as after-reads
 
--- src/lib.rt:62:23
 enum-known-r : tie.Need-enum-known-r
 enum-known-r c = search needs
 
--- src/lib.rt:62:52
 cast-byte : tie.Need-cast-byte
 cast-byte c = search needs
 
--- src/lib.rt:62:44
 byte-requires : tie.Need-byte-requires
 byte-requires c κs = search needs
 
--- src/lib.rt:62:32
 after-requires : tie.Need-after-requires
 after-requires c κs = search needs
 
--- src/lib.rt:63:23
 enum-known-r-2 : tie.Need-enum-known-r-2
 enum-known-r-2 c = search needs
 
--- src/lib.rt:63:46
 cast-t9 : tie.Need-cast-t9
 cast-t9 c = search needs
 
--- src/lib.rt:58:1
 returns : tie.Need-returns
 unfolding firstOf
 returns c =
-    simp
-    (c .after .ensures,
-    c .before .byte .ensures,
-    c .before .before .before .r .given .1)
+    simp (
+      c .after .ensures,
+      c .before .byte .ensures,
+      c .before .before .before .r .given .1,
+    )
 
--- src/lib.rt:58:1
 returns-2 : tie.Need-returns-2
 unfolding firstOf
 returns-2 c =

@@ -3,25 +3,16 @@ use borrow.Author.Tests.{le-ltb, lt-ltb}
 use borrow.Author.Needs.{needs}
 use Rattle.shape.proofs.from_end.Statement.{statement}
 use Rattle.shape.proofs.from_end.Tie as tie
-use Rattle.shape.proofs.from_end.Reads as reads
-use Rattle.shape.proofs.from_end.Lts as lts
-use Rattle.scan.proofs.further.Reads as further-reads
-use Rattle.scan.proofs.run_len.Reads as run-len-reads
-use Rattle.shape.proofs.refused.Reads as refused-reads
 
--- src/lib.rt:522:9
 run-len-requires : tie.Need-run-len-requires
 run-len-requires c κs = search needs
 
--- src/lib.rt:523:9
 further-requires : tie.Need-further-requires
 further-requires c κs = search needs
 
--- src/lib.rt:525:9
 refused-requires : tie.Need-refused-requires
 refused-requires c κs = search needs
 
--- src/lib.rt:525:9
 returns : tie.Need-returns
 unfolding fromEnd
 returns c =
@@ -32,7 +23,6 @@ returns c =
     )
     (c .refused .ensures)
 
--- src/lib.rt:519:1
 returns-2 : tie.Need-returns-2
 unfolding fromEnd
 returns-2 c =

@@ -2,31 +2,19 @@ use Rattle.shape.specs.Line.{fromHead}
 use borrow.Author.Needs.{needs}
 use Rattle.shape.proofs.from_head.Statement.{statement}
 use Rattle.shape.proofs.from_head.Tie as tie
-use Rattle.shape.proofs.from_head.Reads as reads
-use Rattle.shape.proofs.from_head.Lts as lts
-use Rattle.scan.proofs.further.Reads as further-reads
-use Rattle.scan.proofs.rest.Reads as rest-reads
-use Rattle.shape.proofs.from_gap.Reads as from-gap-reads
-use Rattle.shape.proofs.read_head.Reads as read-head-reads
-use Rattle.shape.proofs.refused.Reads as refused-reads
 
--- src/lib.rt:475:9
 read-head-requires : tie.Need-read-head-requires
 read-head-requires c κs = search needs
 
--- src/lib.rt:478:9
 further-requires : tie.Need-further-requires
 further-requires c κs = search needs
 
--- src/lib.rt:480:43
 rest-requires : tie.Need-rest-requires
 rest-requires c κs = search needs
 
--- src/lib.rt:480:9
 from-gap-requires : tie.Need-from-gap-requires
 from-gap-requires c κs = search needs
 
--- src/lib.rt:480:9
 returns : tie.Need-returns
 unfolding fromHead
 returns c =
@@ -38,11 +26,9 @@ returns c =
     )
     (c .from-gap .ensures)
 
--- src/lib.rt:482:5
 refused-requires : tie.Need-refused-requires
 refused-requires c κs = search needs
 
--- src/lib.rt:472:1
 returns-2 : tie.Need-returns-2
 unfolding fromHead
 returns-2 c =

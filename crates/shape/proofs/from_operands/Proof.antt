@@ -2,31 +2,19 @@ use Rattle.shape.specs.Line.{fromOperands}
 use borrow.Author.Needs.{needs}
 use Rattle.shape.proofs.from_operands.Statement.{statement}
 use Rattle.shape.proofs.from_operands.Tie as tie
-use Rattle.shape.proofs.from_operands.Reads as reads
-use Rattle.shape.proofs.from_operands.Lts as lts
-use Rattle.scan.proofs.further.Reads as further-reads
-use Rattle.scan.proofs.rest.Reads as rest-reads
-use Rattle.shape.proofs.from_end.Reads as from-end-reads
-use Rattle.shape.proofs.read_operands.Reads as read-operands-reads
-use Rattle.shape.proofs.refused.Reads as refused-reads
 
--- src/lib.rt:500:9
 read-operands-requires : tie.Need-read-operands-requires
 read-operands-requires c κs = search needs
 
--- src/lib.rt:503:9
 further-requires : tie.Need-further-requires
 further-requires c κs = search needs
 
--- src/lib.rt:512:13
 rest-requires : tie.Need-rest-requires
 rest-requires c κs = search needs
 
--- src/lib.rt:505:9
 from-end-requires : tie.Need-from-end-requires
 from-end-requires c κs = search needs
 
--- src/lib.rt:505:9
 returns : tie.Need-returns
 unfolding fromOperands
 returns c =
@@ -38,11 +26,9 @@ returns c =
     )
     (c .from-end .ensures)
 
--- src/lib.rt:515:5
 refused-requires : tie.Need-refused-requires
 refused-requires c κs = search needs
 
--- src/lib.rt:497:1
 returns-2 : tie.Need-returns-2
 unfolding fromOperands
 returns-2 c =

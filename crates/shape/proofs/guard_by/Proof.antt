@@ -3,37 +3,25 @@ use borrow.Author.Tests.{eq-eqb, ne-eqb}
 use borrow.Author.Needs.{needs}
 use Rattle.shape.proofs.guard_by.Statement.{statement}
 use Rattle.shape.proofs.guard_by.Tie as tie
-use Rattle.shape.proofs.guard_by.Reads as reads
-use Rattle.shape.proofs.guard_by.Lts as lts
-use Rattle.scan.proofs.further.Reads as further-reads
-use Rattle.scan.proofs.rest.Reads as rest-reads
-use Rattle.scan.proofs.run_len.Reads as run-len-reads
 
--- src/lib.rt:409:23
 enum-known-r : tie.Need-enum-known-r
 enum-known-r c = search needs
 
--- src/lib.rt:410:56
 cast-rest : tie.Need-cast-rest
 cast-rest c = search needs
 
--- src/lib.rt:410:48
 rest-requires : tie.Need-rest-requires
 rest-requires c κs = search needs
 
--- src/lib.rt:410:17
 run-len-requires : tie.Need-run-len-requires
 run-len-requires c κs = search needs
 
--- src/lib.rt:412:55
 cast-t15 : tie.Need-cast-t15
 cast-t15 c = search needs
 
--- src/lib.rt:412:39
 add-t16 : tie.Need-add-t16
 add-t16 c = search needs
 
--- src/lib.rt:412:17
 returns : tie.Need-returns
 unfolding guardBy
 returns c =
@@ -44,31 +32,24 @@ returns c =
       eq-eqb _ _ (c .if1 .taken),
     )
 
--- src/lib.rt:416:41
 cast-further : tie.Need-cast-further
 cast-further c = search needs
 
--- src/lib.rt:416:25
 add-further : tie.Need-add-further
 add-further c = search needs
 
--- src/lib.rt:416:17
 further-requires : tie.Need-further-requires
 further-requires c κs = search needs
 
--- src/lib.rt:419:23
 enum-known-r-2 : tie.Need-enum-known-r-2
 enum-known-r-2 c = search needs
 
--- src/lib.rt:419:60
 cast-t22 : tie.Need-cast-t22
 cast-t22 c = search needs
 
--- src/lib.rt:419:44
 add-t23 : tie.Need-add-t23
 add-t23 c = search needs
 
--- src/lib.rt:405:1
 returns-2 : tie.Need-returns-2
 unfolding guardBy
 returns-2 c =
@@ -80,7 +61,6 @@ returns-2 c =
       ← c .further .ensures,
     )
 
--- src/lib.rt:405:1
 returns-3 : tie.Need-returns-3
 unfolding guardBy
 returns-3 c =

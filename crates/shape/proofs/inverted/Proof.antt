@@ -2,41 +2,31 @@ use Rattle.shape.specs.Operand.{inverted}
 use borrow.Author.Needs.{needs}
 use Rattle.shape.proofs.inverted.Statement.{statement}
 use Rattle.shape.proofs.inverted.Tie as tie
-use Rattle.shape.proofs.inverted.Reads as reads
-use Rattle.shape.proofs.inverted.Lts as lts
 
--- src/lib.rt:53:23
 enum-known-r : tie.Need-enum-known-r
 enum-known-r c = search needs
 
--- src/lib.rt:53:69
 cast-t7 : tie.Need-cast-t7
 cast-t7 c = search needs
 
--- src/lib.rt:53:68
 add-t8 : tie.Need-add-t8
 add-t8 c = search needs
 
--- src/lib.rt:54:23
 enum-known-r-2 : tie.Need-enum-known-r-2
 enum-known-r-2 c = search needs
 
--- src/lib.rt:54:47
 cast-t9 : tie.Need-cast-t9
 cast-t9 c = search needs
 
--- src/lib.rt:54:46
 add-t10 : tie.Need-add-t10
 add-t10 c = search needs
 
--- src/lib.rt:49:1
 returns : tie.Need-returns
 unfolding inverted
 returns c =
     simp
     (c .before .r .given .1)
 
--- src/lib.rt:49:1
 returns-2 : tie.Need-returns-2
 unfolding inverted
 returns-2 c =

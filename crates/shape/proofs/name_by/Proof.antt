@@ -3,35 +3,25 @@ use borrow.Author.Tests.{eq-eqb, ne-eqb}
 use borrow.Author.Needs.{needs}
 use Rattle.shape.proofs.name_by.Statement.{statement}
 use Rattle.shape.proofs.name_by.Tie as tie
-use Rattle.shape.proofs.name_by.Reads as reads
-use Rattle.shape.proofs.name_by.Lts as lts
-use Rattle.scan.proofs.further.Reads as further-reads
-use Rattle.shape.proofs.pushed_name.Reads as pushed-name-reads
 
--- src/lib.rt:198:9
 returns : tie.Need-returns
 unfolding nameBy
 returns c =
     simp
     (eq-eqb _ _ (c .if1 .taken))
 
--- src/lib.rt:206:9
 pushed-name-requires : tie.Need-pushed-name-requires
 pushed-name-requires c κs = search needs
 
--- src/lib.rt:207:9
 further-requires : tie.Need-further-requires
 further-requires c κs = search needs
 
--- src/lib.rt:212:20
 further-requires-2 : tie.Need-further-requires-2
 further-requires-2 c κs = search needs
 
--- src/lib.rt:213:19
 further-requires-3 : tie.Need-further-requires-3
 further-requires-3 c κs = search needs
 
--- src/lib.rt:209:9
 returns-2 : tie.Need-returns-2
 unfolding nameBy
 returns-2 c =
@@ -44,7 +34,6 @@ returns-2 c =
       ne-eqb _ _ (c .before .before .before .before .before .if1 .left),
     )
 
--- src/lib.rt:192:1
 returns-3 : tie.Need-returns-3
 unfolding nameBy
 returns-3 c =

@@ -3,15 +3,10 @@ use borrow.Author.Tests.{le-leb, lt-leb}
 use borrow.Author.Needs.{needs}
 use Rattle.shape.proofs.pushed_name.Statement.{statement}
 use Rattle.shape.proofs.pushed_name.Tie as tie
-use Rattle.shape.proofs.pushed_name.Reads as reads
-use Rattle.shape.proofs.pushed_name.Lts as lts
-use Rattle.scan.proofs.further.Reads as further-reads
 
--- src/lib.rt:134:9
 further-requires : tie.Need-further-requires
 further-requires c κs = search needs
 
--- src/lib.rt:136:9
 returns : tie.Need-returns
 unfolding pushedName
 returns c =
@@ -20,15 +15,12 @@ returns c =
       c .before .further .ensures,
     )
 
--- src/lib.rt:138:5
 mul-at : tie.Need-mul-at
 mul-at c = search needs
 
--- src/lib.rt:138:5
 array-write-at : tie.Need-array-write-at
 array-write-at c = search needs
 
--- src/lib.rt:129:1
 returns-2 : tie.Need-returns-2
 unfolding pushedName
 returns-2 c =

@@ -3,18 +3,10 @@ use borrow.Author.Tests.{eq-eqb, ne-eqb}
 use borrow.Author.Needs.{needs}
 use Rattle.shape.proofs.read_guard.Statement.{statement}
 use Rattle.shape.proofs.read_guard.Tie as tie
-use Rattle.shape.proofs.read_guard.Reads as reads
-use Rattle.shape.proofs.read_guard.Lts as lts
-use Rattle.scan.proofs.byte.Reads as byte-reads
-use Rattle.scan.proofs.read_register.Reads as read-register-reads
-use Rattle.scan.proofs.rest.Reads as rest-reads
-use Rattle.shape.proofs.guard_by.Reads as guard-by-reads
 
--- src/lib.rt:393:8
 byte-requires : tie.Need-byte-requires
 byte-requires c κs = search needs
 
--- src/lib.rt:394:9
 returns : tie.Need-returns
 unfolding guardOf
 returns c =
@@ -23,23 +15,18 @@ returns c =
       ne-eqb _ _ (c .if1 .taken),
     )
 
--- src/lib.rt:396:8
 byte-requires-2 : tie.Need-byte-requires-2
 byte-requires-2 c κs = search needs
 
--- src/lib.rt:397:13
 rest-requires : tie.Need-rest-requires
 rest-requires c κs = search needs
 
--- src/lib.rt:398:34
 read-register-requires : tie.Need-read-register-requires
 read-register-requires c κs = search needs
 
--- src/lib.rt:398:9
 guard-by-requires : tie.Need-guard-by-requires
 guard-by-requires c κs = search needs
 
--- src/lib.rt:398:9
 returns-2 : tie.Need-returns-2
 unfolding guardOf
 returns-2 c =
@@ -53,19 +40,15 @@ returns-2 c =
     )
     (c .guard-by .ensures)
 
--- src/lib.rt:400:9
 rest-requires-2 : tie.Need-rest-requires-2
 rest-requires-2 c κs = search needs
 
--- src/lib.rt:401:24
 read-register-requires-2 : tie.Need-read-register-requires-2
 read-register-requires-2 c κs = search needs
 
--- src/lib.rt:401:5
 guard-by-requires-2 : tie.Need-guard-by-requires-2
 guard-by-requires-2 c κs = search needs
 
--- src/lib.rt:390:1
 returns-3 : tie.Need-returns-3
 unfolding guardOf
 returns-3 c =

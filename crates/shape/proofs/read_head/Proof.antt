@@ -10,11 +10,6 @@ use Rattle.shape.specs.declared.Names.{Names}
 use Rattle.shape.specs.Head.{headOf, nameTurns, nameTurn}
 use Rattle.shape.proofs.read_head.Statement.{statement}
 use Rattle.shape.proofs.read_head.Tie as tie
-use Rattle.shape.proofs.read_head.Reads as reads
-use Rattle.shape.proofs.read_head.Lts as lts
-use Rattle.scan.proofs.rest.Reads as rest-reads
-use Rattle.shape.proofs.name_turn.Reads as name-turn-reads
-use Rattle.shape.proofs.start_names.Reads as start-names-reads
 
 abbrev Inv-loop : tie.InvT-loop
 Inv-loop s w₀ names₀ -turn₀ w names -turn = (-turn ≤ mostTurns) × (headOf s ≡ nameTurns (mostTurns - -turn) w names)
@@ -22,44 +17,35 @@ Inv-loop s w₀ names₀ -turn₀ w names -turn = (-turn ≤ mostTurns) × (head
 abbrev μ-loop : tie.MeasureT-loop
 μ-loop s w₀ names₀ -turn₀ w names -turn = mostTurns - -turn
 
--- src/lib.rt:170:9
 start-names-requires : tie.Need-start-names-requires Inv-loop μ-loop
 start-names-requires c κs = search needs
 
--- src/lib.rt:171:5
 loop-holds : tie.Need-loop-holds Inv-loop μ-loop
 unfolding headOf
 loop-holds c = (omega arith, rw (c .start-names .ensures))
 
--- src/lib.rt:173:13
 returns : tie.Need-returns Inv-loop μ-loop
 returns c =
     let l = c .before .before .before .loop in
     stops (λ (x : Names). x .more) (λ (x : Names). x .step) nameTurn (headOf (now (c .before .before .before .before .before .before .args .s))) (mostTurns - l .-turn) (now (l .w)) (l .names) (not-true _ (c .if1 .taken)) (l .inv .1)
 
--- src/lib.rt:175:9
 name-turn-requires : tie.Need-name-turn-requires Inv-loop μ-loop
 name-turn-requires c κs = search needs
 
--- src/lib.rt:177:13
 rest-requires : tie.Need-rest-requires Inv-loop μ-loop
 rest-requires c κs = search needs
 
--- src/lib.rt:171:9
 add--turn : tie.Need-add--turn Inv-loop μ-loop
 add--turn c = omega arith
 
--- src/lib.rt:171:5
 loop-less : tie.Need-loop-less Inv-loop μ-loop
 loop-less c = omega arith
 
--- src/lib.rt:171:5
 loop-again : tie.Need-loop-again Inv-loop μ-loop
 loop-again c =
     let l = c .before .before .before .before .before .loop in
     (omega arith, rw (c .rest .ensures, c .before .name-turn .ensures) (goes-on (λ (x : Names). x .more) (λ (x : Names). x .step) nameTurn (headOf (now (c .before .before .before .before .before .before .before .before .args .s))) mostTurns (l .-turn) (now (l .w)) (l .names) (omega arith) (not-false _ (c .before .before .if1 .left)) (l .inv .1)))
 
--- src/lib.rt:166:1
 returns-2 : tie.Need-returns-2 Inv-loop μ-loop
 returns-2 c =
     let l = c .before .loop in

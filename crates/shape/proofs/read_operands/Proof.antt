@@ -10,11 +10,6 @@ use Rattle.shape.specs.declared.Listed.{Listed}
 use Rattle.shape.specs.Operands.{operandsOf, operandTurns, operandTurn}
 use Rattle.shape.proofs.read_operands.Statement.{statement}
 use Rattle.shape.proofs.read_operands.Tie as tie
-use Rattle.shape.proofs.read_operands.Reads as reads
-use Rattle.shape.proofs.read_operands.Lts as lts
-use Rattle.scan.proofs.rest.Reads as rest-reads
-use Rattle.shape.proofs.operand_turn.Reads as operand-turn-reads
-use Rattle.shape.proofs.start_list.Reads as start-list-reads
 
 abbrev Inv-loop : tie.InvT-loop
 Inv-loop s w₀ list₀ -turn₀ w list -turn = (-turn ≤ mostTurns) × (operandsOf s ≡ operandTurns (mostTurns - -turn) w list)
@@ -22,44 +17,35 @@ Inv-loop s w₀ list₀ -turn₀ w list -turn = (-turn ≤ mostTurns) × (operan
 abbrev μ-loop : tie.MeasureT-loop
 μ-loop s w₀ list₀ -turn₀ w list -turn = mostTurns - -turn
 
--- src/lib.rt:311:9
 start-list-requires : tie.Need-start-list-requires Inv-loop μ-loop
 start-list-requires c κs = search needs
 
--- src/lib.rt:312:5
 loop-holds : tie.Need-loop-holds Inv-loop μ-loop
 unfolding operandsOf
 loop-holds c = (omega arith, rw (c .start-list .ensures))
 
--- src/lib.rt:314:13
 returns : tie.Need-returns Inv-loop μ-loop
 returns c =
     let l = c .before .before .before .loop in
     stops (λ (x : Listed). x .more) (λ (x : Listed). x .step) operandTurn (operandsOf (now (c .before .before .before .before .before .before .args .s))) (mostTurns - l .-turn) (now (l .w)) (l .list) (not-true _ (c .if1 .taken)) (l .inv .1)
 
--- src/lib.rt:316:9
 operand-turn-requires : tie.Need-operand-turn-requires Inv-loop μ-loop
 operand-turn-requires c κs = search needs
 
--- src/lib.rt:318:13
 rest-requires : tie.Need-rest-requires Inv-loop μ-loop
 rest-requires c κs = search needs
 
--- src/lib.rt:312:9
 add--turn : tie.Need-add--turn Inv-loop μ-loop
 add--turn c = omega arith
 
--- src/lib.rt:312:5
 loop-less : tie.Need-loop-less Inv-loop μ-loop
 loop-less c = omega arith
 
--- src/lib.rt:312:5
 loop-again : tie.Need-loop-again Inv-loop μ-loop
 loop-again c =
     let l = c .before .before .before .before .before .loop in
     (omega arith, rw (c .rest .ensures, c .before .operand-turn .ensures) (goes-on (λ (x : Listed). x .more) (λ (x : Listed). x .step) operandTurn (operandsOf (now (c .before .before .before .before .before .before .before .before .args .s))) mostTurns (l .-turn) (now (l .w)) (l .list) (omega arith) (not-false _ (c .before .before .if1 .left)) (l .inv .1)))
 
--- src/lib.rt:307:1
 returns-2 : tie.Need-returns-2 Inv-loop μ-loop
 returns-2 c =
     let l = c .before .loop in

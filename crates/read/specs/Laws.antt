@@ -1,0 +1,396 @@
+-- The reader's stages and the grammar agree: each line gets the answer that the grammar gives it, and no other. Assumes nothing.
+use Prim.Native.Nat.{ℕ, _≤_, _<_}
+use native.Mathlib.Omega.{arith}
+use mathlib.Core.Path.{_≡_, refl, sym, ap, subst, _∙_}
+use mathlib.Core.Bool.{Bool, true, false, not, _&&_, and-eq-true-iff}
+use mathlib.Core.List.{List, [], _∷_, map}
+use lib.ListN.{length}
+use lib.Dec.{ltb}
+use borrow.Author.Tests.{lt-ltb, le-ltb, ltb-true, ltb-false}
+use Rattle.record.specs.Modifiers.{instructionModifiersFit, modifiersFit}
+use Rattle.record.specs.Operands.{operandsFit}
+use Rattle.record.specs.Refusals.{numbersInRange, pairApart, isLegal, Legal}
+use Rattle.record.specs.declared.Guard.{Guard}
+use Rattle.record.specs.declared.Guard.the-variants.{Always, When}
+use Rattle.record.specs.declared.Arith.the-variants.{Vadd, Vsub, Vabsdiff, Vmin, Vmax}
+use Rattle.record.specs.declared.LaneWidth.{LaneWidth}
+use Rattle.record.specs.declared.LaneWidth.the-variants.{Half, Byte}
+use Rattle.record.specs.declared.Form.{Form}
+use Rattle.record.specs.declared.Form.the-variants.{Plain, Merge, Combine}
+use Rattle.record.specs.declared.Combination.{Combination}
+use Rattle.record.specs.declared.Combination.the-variants.{Alone, With}
+use Rattle.record.specs.declared.SlctType
+use Rattle.record.specs.declared.SlctType.{SlctType}
+use Rattle.record.specs.declared.Instruction.{Instruction}
+use Rattle.record.specs.declared.Instruction.the-variants.{Arithmetic, Vset, VsetLanes, Set, Setp, Selp, Slct}
+use Rattle.record.specs.declared.Record.{Record}
+use Rattle.rules.specs.Executing.{word, double, pred}
+use Rattle.rules.specs.Shape.{Name, OperandTree}
+use Rattle.rules.specs.Names.{lanesName, formOp2, combinationNames, headNames}
+use Rattle.rules.specs.StandardLine.{p}
+use Rattle.rules.specs.Grammar.GoodNames.{more as name-more}
+use Rattle.rules.specs.Grammar.GoodOthers.{none as no-other, more as other-more}
+use Rattle.rules.specs.Grammar.GoodOperands.{none as no-operand, more as operand-more}
+use Rattle.rules.specs.Grammar.{LineTree, GuardTree, unguarded, guarded, Divided, namesOf, operandsOf, Good, GoodNames, GoodOthers, GoodOperands, Shaped}
+use Rattle.rules.specs.Reading.{GuardSpells, Spells, Relates, lineLimit, opcodes, Listed, here, later, Row, Fits, Refuses, over-160, no-shape, no-opcode, no-row, no-fit, out-of-file, same-pair, Answer, read, refused, Answers, accepts, refuses}
+use Rattle.tree.specs.Seen.{seen, seenGuard, seenHead, seenOperands}
+use Rattle.tree.specs.Blank.{blank, blankForm, blankCombination}
+use Rattle.tree.specs.declared.Guarding.{Guarding}
+use Rattle.tree.specs.declared.Parts.{Parts}
+use Rattle.shape.specs.Line.{shapeOf}
+use Rattle.shape.specs.Complete.{shape-complete}
+use Rattle.shape.specs.Sound.{ShapedAs, shape-sound}
+use Rattle.heads.specs.Rows.{rowOf}
+use Rattle.heads.specs.Complete.{row-complete, same-row, wrong-no-row, fit-blank}
+use Rattle.heads.specs.Sound.{row-sound, no-opcode-known, wrong-known}
+use Rattle.heads.specs.declared.Found
+use Rattle.heads.specs.declared.Found.{Found}
+use Rattle.fills.specs.Fills.{filledOf}
+use Rattle.fills.specs.FillComplete.{fill-complete}
+use Rattle.fills.specs.FillSound.{fill-sound}
+use Rattle.fills.specs.declared.Filled
+use Rattle.fills.specs.declared.Filled.{Filled}
+use Rattle.read.specs.Mirror.{guardGood, guardIn, instructionIn, fullIs, filledIn, recordOf, candidateBy, candidateOf, firstRefusal, decided, decidedBy, readOf}
+
+-- ==== what stands between the rooms
+
+off : {A : Type 0} {t : Bool} → t ≡ true → t ≡ false → A
+off e f = let z : true ≡ false = sym e ∙ f in let y : _≡_ {A = ℕ} 0 1 = cc in absurd (omega arith)
+
+-- the operands of a head that was left blank do not count
+form-op2 : (f : Form) → formOp2 (blankForm f) ≡ formOp2 f
+form-op2 (Plain d) = refl
+form-op2 (Merge d sel c) = refl
+form-op2 (Combine op d c) = refl
+
+combination-names : (c : Combination) → combinationNames (blankCombination c) ≡ combinationNames c
+combination-names Alone = refl
+combination-names (With op c) = refl
+
+blank-names : (i : Instruction) → headNames (blank i) ≡ headNames i
+blank-names (Arithmetic op dtype sat s) = rw (form-op2 (s .form))
+blank-names (Vset cmp s) = rw (form-op2 (s .form))
+blank-names (VsetLanes cmp l) = refl
+blank-names (Set dtype d s) = rw (combination-names (s .combination))
+blank-names (Setp d s) = rw (combination-names (s .combination))
+blank-names (Selp s c) = refl
+blank-names (Slct SlctType.S32 s c) = refl
+blank-names (Slct (SlctType.F32 ftz) s c) = refl
+
+-- legality, rule by rule
+all-legal : (m : Record) → modifiersFit m ≡ true → operandsFit m ≡ true → numbersInRange m ≡ true → pairApart m ≡ true → Legal m
+unfolding isLegal
+all-legal m a b c d = rw (a, b, c, d)
+
+-- the guard that the tree spells is the one that is kept
+guard-found : (g : GuardTree) (h : Guard) → GuardSpells g h → (guardGood (seenGuard g) ≡ true) × (guardIn (seenGuard g) ≡ h)
+guard-found unguarded Always s = (refl, refl)
+guard-found unguarded (When c) s = absurd s
+guard-found (guarded n q b) Always s = absurd s
+guard-found (guarded n q b) (When c) s = rw (s .0, s .1) (refl, refl)
+
+guard-spells : (g : GuardTree) → guardGood (seenGuard g) ≡ true → GuardSpells g (guardIn (seenGuard g))
+guard-spells unguarded e = tt
+guard-spells (guarded n (word k) b) e = off e refl
+guard-spells (guarded n (double k) b) e = off e refl
+guard-spells (guarded n (pred k) b) e = (refl, refl)
+
+good-operands : (ds : List Divided) → GoodOthers ds → GoodOperands (map (λ (d : Divided). d .operand) ds)
+good-operands [] no-other = no-operand
+good-operands (d ∷ ds) (other-more g gs) = operand-more (g .operand) (good-operands ds gs)
+
+-- the first name of a row is an opcode
+abbrev firstOf : List Name → Name
+firstOf [] = []
+firstOf (n ∷ ns) = n
+
+first-listed : (i : Instruction) → Listed (firstOf (headNames i)) opcodes
+first-listed (Arithmetic Vadd dtype sat s) = here refl
+first-listed (Arithmetic Vsub dtype sat s) = later (here refl)
+first-listed (Arithmetic Vabsdiff dtype sat s) = later (later (here refl))
+first-listed (Arithmetic Vmin dtype sat s) = later (later (later (here refl)))
+first-listed (Arithmetic Vmax dtype sat s) = later (later (later (later (here refl))))
+first-listed (Vset cmp s) = later (later (later (later (later (here refl)))))
+first-listed (VsetLanes cmp l) = lanes (l .width)
+  where
+    lanes : (w : LaneWidth) → Listed (lanesName w) opcodes
+    lanes Half = later (later (later (later (later (later (here refl))))))
+    lanes Byte = later (later (later (later (later (later (later (here refl)))))))
+first-listed (Set dtype d s) = later (later (later (later (later (later (later (later (here refl))))))))
+first-listed (Setp d s) = later (later (later (later (later (later (later (later (later (here refl)))))))))
+first-listed (Selp s c) = later (later (later (later (later (later (later (later (later (later (here refl))))))))))
+first-listed (Slct SlctType.S32 s c) = later (later (later (later (later (later (later (later (later (later (later (here refl)))))))))))
+first-listed (Slct (SlctType.F32 ftz) s c) = later (later (later (later (later (later (later (later (later (later (later (here refl)))))))))))
+
+row-listed : (i : Instruction) (n : Name) (ns : List Name) → n ∷ ns ≡ headNames i → Listed n opcodes
+row-listed i n ns e = subst (λ (m : Name). Listed m opcodes) (sym (ap firstOf e)) (first-listed i)
+
+-- ==== a tree and the records that it spells
+
+-- a record that it spells is the one that is found
+spelled-found : (t : LineTree) (m : Record) → Spells t m
+    → (rowOf (seenHead (namesOf t)) ≡ Found.Row (blank (m .instruction)))
+    × (filledOf (blank (m .instruction)) (seenOperands (operandsOf t)) ≡ Filled.Full (m .instruction))
+spelled-found t m s = (
+  ap (λ (ns : List Name). rowOf (seenHead ns)) (s .head) ∙ row-complete (m .instruction),
+  fill-complete (m .instruction) (operandsOf t) (s .operands),
+)
+
+-- of trees of which the same is kept, two records that they spell are one
+seen-one : (t u : LineTree) → seen t ≡ seen u → (m n : Record) → Spells t m → Spells u n → m ≡ n
+seen-one t u e m n s v =
+    let a = spelled-found t m s in
+    let b = spelled-found u n v in
+    let g = guard-found (t .guard) (m .guard) (s .guard) in
+    let h = guard-found (u .guard) (n .guard) (v .guard) in
+    let z : Found.Row (blank (m .instruction)) ≡ Found.Row (blank (n .instruction)) = sym (a .0) ∙ ap (λ (x : Parts). rowOf (x .head)) e ∙ b .0 in
+    let k : blank (m .instruction) ≡ blank (n .instruction) = cc in
+    let y : Filled.Full (m .instruction) ≡ Filled.Full (n .instruction) = sym (a .1) ∙ ap (λ (x : Parts). filledOf (blank (m .instruction)) (x .operands)) e ∙ ap (λ (i : Instruction). filledOf i (seenOperands (operandsOf u))) k ∙ b .1 in
+    let i : m .instruction ≡ n .instruction = cc in
+    let q : m .guard ≡ n .guard = sym (g .1) ∙ ap (λ (x : Parts). guardIn (x .guard)) e ∙ h .1 in
+    ap (λ (x : Guard). recordOf x (m .instruction)) q ∙ ap (recordOf (n .guard)) i
+
+-- ==== a line that has the shape
+
+module _ (l : List ℕ) (short : length l ≤ lineLimit) (t : LineTree) (shaped : Shaped l t) where
+  is-good : (shapeOf l .good ≡ true) × (shapeOf l .parts ≡ seen t)
+  is-good =
+      subst (λ (k : List ℕ). (shapeOf k .good ≡ true) × (shapeOf k .parts ≡ seen t)) (shaped .text)
+      (shape-complete t (shaped .good) (rw (shaped .text) short))
+
+  -- what the reader says of it, by its tree
+  abbrev said : Found → Filled → Answer
+  said found filled = decidedBy false true (candidateBy (seenGuard (t .guard)) found filled)
+
+  abbrev found : Found
+  found = rowOf (seenHead (namesOf t))
+
+  abbrev filledBy : Found → Filled
+  filledBy f = filledOf (instructionIn f) (seenOperands (operandsOf t))
+
+  is-said : readOf l ≡ said found (filledBy found)
+  unfolding readOf candidateOf
+  is-said = rw (le-ltb lineLimit (length l) short, is-good .0, is-good .1)
+
+  pub spelled-said : (m : Record) → Spells t m
+      → readOf l ≡ decidedBy false true (record { spelled = m; opcode = true; row = modifiersFit m; fit = operandsFit m })
+  spelled-said m s =
+      let f = spelled-found t m s in
+      let g = guard-found (t .guard) (m .guard) (s .guard) in
+      is-said ∙ rw (f .0, f .1, g .0, g .1, fit-blank (m .instruction))
+
+  -- what is found and passes all stages is spelled
+  found-spells : (i j : Instruction) → found ≡ Found.Row i → filledBy (Found.Row i) ≡ Filled.Full j → guardGood (seenGuard (t .guard)) ≡ true
+      → Spells t (recordOf (guardIn (seenGuard (t .guard))) j) × (blank j ≡ i)
+  found-spells i j e f g =
+      let r = row-sound (namesOf t) i (name-more (shaped .good .opcode) (shaped .good .modifiers)) e in
+      let k = fill-sound i j (operandsOf t) (r .1) (operand-more (shaped .good .first) (good-operands (t .others) (shaped .good .others))) f in
+      let h : namesOf t ≡ headNames j = r .0 ∙ ap headNames (sym (k .1)) ∙ blank-names j in
+      (record { guard = guard-spells (t .guard) g; head = h; operands = k .0 }, k .1)
+
+  -- ---- each stage gives the answer that the grammar gives
+
+  -- the line spells m, which fits
+  fits-answers : (m : Record) → Fits t m → Answers l (decidedBy false true (record { spelled = m; opcode = true; row = true; fit = true }))
+  fits-answers m f = go (numbersInRange m) refl (pairApart m) refl
+    where
+      go : (x : Bool) → numbersInRange m ≡ x → (y : Bool) → pairApart m ≡ y → Answers l (decided (firstRefusal false false false false false (not x) (not y)) m)
+      go false e y q = refuses (out-of-file short t shaped m f e)
+      go true e false q = refuses (same-pair short t shaped m f e q)
+      go true e true q = accepts m (record { short = short; tree = t; shaped = shaped; spells = f .spells }) (all-legal m (f .modifiers) (f .operands) e q)
+
+  -- the row fits; the operands are j's, or wrong
+  operands-answer : (i : Instruction) → found ≡ Found.Row i → instructionModifiersFit i ≡ true → (x : Filled) → filledBy (Found.Row i) ≡ x
+      → Answers l (decidedBy false true (record {
+        spelled = recordOf (guardIn (seenGuard (t .guard))) (filledIn x);
+        opcode = true;
+        row = true;
+        fit = guardGood (seenGuard (t .guard)) && fullIs x && operandsFit (recordOf (guardIn (seenGuard (t .guard))) (filledIn x));
+      }))
+  operands-answer i e f x q = go x q (guardGood (seenGuard (t .guard))) refl
+    where
+      row : Row t i
+      row = record { names = row-sound (namesOf t) i (name-more (shaped .good .opcode) (shaped .good .modifiers)) e .0; fit = f }
+
+      g : Guarding
+      g = seenGuard (t .guard)
+
+      -- a record that fits would have been found, with its guard
+      none-full : (k : ℕ) → filledBy (Found.Row i) ≡ Filled.Wrong k → (m : Record) → Fits t m → ⊥
+      none-full k w m h =
+          let a = spelled-found t m (h .spells) in
+          let z : Filled.Wrong k ≡ Filled.Full (m .instruction) = sym w ∙ ap filledBy (sym e ∙ a .0) ∙ a .1 in
+          let o : _≡_ {A = ℕ} 0 1 = cc in
+          omega arith
+
+      none-guarded : guardGood g ≡ false → (m : Record) → Fits t m → ⊥
+      none-guarded w m h = off (guard-found (t .guard) (m .guard) (h .spells .guard) .0) w
+
+      go : (x : Filled) → filledBy (Found.Row i) ≡ x → (b : Bool) → guardGood g ≡ b
+          → Answers l (decidedBy false true (record { spelled = recordOf (guardIn g) (filledIn x); opcode = true; row = true; fit = b && fullIs x && operandsFit (recordOf (guardIn g) (filledIn x)) }))
+      go x q false b = refuses (no-fit short t shaped i row (none-guarded b))
+      go (Filled.Wrong k) q true b = refuses (no-fit short t shaped i row (none-full k q))
+      go (Filled.Full j) q true b = fit (operandsFit (recordOf (guardIn g) j)) refl
+        where
+          s : Spells t (recordOf (guardIn g) j) × (blank j ≡ i)
+          s = found-spells i j e q b
+
+          fit : (c : Bool) → operandsFit (recordOf (guardIn g) j) ≡ c
+              → Answers l (decidedBy false true (record { spelled = recordOf (guardIn g) j; opcode = true; row = true; fit = c }))
+          fit true c = fits-answers (recordOf (guardIn g) j) (record { spells = s .0; modifiers = sym (fit-blank j) ∙ ap instructionModifiersFit (s .1) ∙ f; operands = c })
+          fit false c =
+              refuses
+              (no-fit short t shaped i row λ m h. off (h .operands) (ap operandsFit (seen-one t t refl m (recordOf (guardIn g) j) (h .spells) (s .0)) ∙ c))
+
+  found-answers : (f : Found) → found ≡ f → Answers l (said f (filledBy f))
+  found-answers Found.NoOpcode e = refuses (no-opcode short t shaped (no-opcode-known (t .opcode) (t .modifiers) (shaped .good .opcode) e))
+  found-answers (Found.Wrong k) e =
+      refuses (no-row short t shaped (wrong-known (t .opcode) (t .modifiers) k (shaped .good .opcode) e) λ i r. wrong-no-row (namesOf t) k e i (r .names))
+  found-answers (Found.Row i) e = fit (instructionModifiersFit i) refl
+    where
+      r : (namesOf t ≡ headNames i) × (blank i ≡ i)
+      r = row-sound (namesOf t) i (name-more (shaped .good .opcode) (shaped .good .modifiers)) e
+
+      -- rows of one head fit together
+      unfit : instructionModifiersFit i ≡ false → (j : Instruction) → Row t j → ⊥
+      unfit w j q =
+          let z = same-row j i (sym (q .names) ∙ r .0) in
+          off (q .fit) (sym (fit-blank j) ∙ ap instructionModifiersFit z ∙ fit-blank i ∙ w)
+
+      fit : (b : Bool) → instructionModifiersFit i ≡ b → Answers l (decidedBy false true (record {
+        spelled = recordOf (guardIn (seenGuard (t .guard))) (filledIn (filledBy (Found.Row i)));
+        opcode = true;
+        row = b;
+        fit = guardGood (seenGuard (t .guard)) && fullIs (filledBy (Found.Row i)) && operandsFit (recordOf (guardIn (seenGuard (t .guard))) (filledIn (filledBy (Found.Row i))));
+      }))
+      fit true w = operands-answer i e w (filledBy (Found.Row i)) refl
+      fit false w = refuses (no-row short t shaped (row-listed i (t .opcode) (t .modifiers) (r .0)) (unfit w))
+
+  pub shaped-answers : Answers l (readOf l)
+  shaped-answers = subst (Answers l) (sym is-said) (found-answers found refl)
+
+-- ==== every line
+
+-- every line gets the answer that the grammar gives it
+pub answers : (l : List ℕ) → Answers l (readOf l)
+unfolding readOf
+answers l = go (ltb lineLimit (length l)) refl
+  where
+    shapes : length l ≤ lineLimit → (b : Bool) → shapeOf l .good ≡ b → Answers l (decidedBy false b (candidateOf (shapeOf l .parts)))
+    shapes h true e =
+        let s = shape-sound l h e in
+        subst (Answers l) (rw (le-ltb lineLimit (length l) h, e)) (shaped-answers l h (s .tree) (s .shaped))
+    shapes h false e = refuses (no-shape h λ t s. off (is-good l h t s .0) e)
+
+    go : (b : Bool) → ltb lineLimit (length l) ≡ b → Answers l (decidedBy b (shapeOf l .good) (candidateOf (shapeOf l .parts)))
+    go true e = refuses (over-160 (ltb-true lineLimit (length l) e))
+    go false e = shapes (ltb-false lineLimit (length l) e) (shapeOf l .good) refl
+
+-- ==== and no other
+
+legal-parts : (m : Record) → Legal m → (modifiersFit m ≡ true) × (operandsFit m ≡ true) × (numbersInRange m ≡ true) × (pairApart m ≡ true)
+unfolding isLegal
+legal-parts m h = go (modifiersFit m) (operandsFit m) (numbersInRange m) (pairApart m) h
+  where
+    go : (a b c d : Bool) → a && b && c && d ≡ true → (a ≡ true) × (b ≡ true) × (c ≡ true) × (d ≡ true)
+    go a b c d h = let k = simp and-eq-true-iff at h in (k .0 .0 .0, k .0 .0 .1, k .0 .1, k .1)
+
+module _ (l : List ℕ) (short : length l ≤ lineLimit) (t : LineTree) (shaped : Shaped l t) where
+  found-only : (a : Answer) → ((f : Found) → found l short t shaped ≡ f → said l short t shaped f (filledBy l short t shaped f) ≡ a) → readOf l ≡ a
+  found-only a k = is-said l short t shaped ∙ k (found l short t shaped) refl
+
+  row-of : (i : Instruction) → found l short t shaped ≡ Found.Row i → namesOf t ≡ headNames i
+  row-of i e = row-sound (namesOf t) i (name-more (shaped .good .opcode) (shaped .good .modifiers)) e .0
+
+  no-opcode-only : (Listed (t .opcode) opcodes → ⊥) → readOf l ≡ refused 3
+  no-opcode-only k = found-only (refused 3) go
+    where
+      go : (f : Found) → found l short t shaped ≡ f → said l short t shaped f (filledBy l short t shaped f) ≡ refused 3
+      go Found.NoOpcode e = refl
+      go (Found.Wrong j) e = absurd (k (wrong-known (t .opcode) (t .modifiers) j (shaped .good .opcode) e))
+      go (Found.Row i) e = absurd (k (row-listed i (t .opcode) (t .modifiers) (row-of i e)))
+
+  no-row-only : Listed (t .opcode) opcodes → ((i : Instruction) → Row t i → ⊥) → readOf l ≡ refused 4
+  no-row-only o k = found-only (refused 4) go
+    where
+      unfit : (i : Instruction) → namesOf t ≡ headNames i → (b : Bool) → instructionModifiersFit i ≡ b → instructionModifiersFit i ≡ false
+      unfit i n true e = absurd (k i (record { names = n; fit = e }))
+      unfit i n false e = e
+
+      go : (f : Found) → found l short t shaped ≡ f → said l short t shaped f (filledBy l short t shaped f) ≡ refused 4
+      go Found.NoOpcode e = absurd (no-opcode-known (t .opcode) (t .modifiers) (shaped .good .opcode) e o)
+      go (Found.Wrong j) e = refl
+      go (Found.Row i) e = rw (unfit i (row-of i e) (instructionModifiersFit i) refl)
+
+  no-fit-only : (i : Instruction) → Row t i → ((m : Record) → Fits t m → ⊥) → readOf l ≡ refused 5
+  no-fit-only i r k =
+      is-said l short t shaped ∙ rw e (rw (fits) (go (filledBy l short t shaped (Found.Row (blank i))) refl (guardGood g) refl))
+    where
+      g : Guarding
+      g = seenGuard (t .guard)
+
+      e : found l short t shaped ≡ Found.Row (blank i)
+      e = ap (λ (ns : List Name). rowOf (seenHead ns)) (r .names) ∙ row-complete i
+
+      fits : instructionModifiersFit (blank i) ≡ true
+      fits = fit-blank i ∙ r .fit
+
+      go : (x : Filled) → filledBy l short t shaped (Found.Row (blank i)) ≡ x → (b : Bool) → guardGood g ≡ b
+          → decidedBy false true (record { spelled = recordOf (guardIn g) (filledIn x); opcode = true; row = true; fit = b && fullIs x && operandsFit (recordOf (guardIn g) (filledIn x)) }) ≡ refused 5
+      go x q false b = refl
+      go (Filled.Wrong j) q true b = refl
+      go (Filled.Full j) q true b = fit (operandsFit (recordOf (guardIn g) j)) refl
+        where
+          s : Spells t (recordOf (guardIn g) j) × (blank j ≡ blank i)
+          s = found-spells l short t shaped (blank i) j e q b
+
+          fit : (c : Bool) → operandsFit (recordOf (guardIn g) j) ≡ c
+              → decidedBy false true (record { spelled = recordOf (guardIn g) j; opcode = true; row = true; fit = c }) ≡ refused 5
+          fit false c = refl
+          fit true c =
+              absurd
+              (k (recordOf (guardIn g) j)
+              (record { spells = s .0; modifiers = sym (fit-blank j) ∙ ap instructionModifiersFit (s .1) ∙ fits; operands = c }))
+
+  fits-only : (m : Record) → Fits t m → readOf l ≡ decidedBy false true (record { spelled = m; opcode = true; row = true; fit = true })
+  fits-only m f = spelled-said l short t shaped m (f .spells) ∙ rw (f .modifiers, f .operands)
+
+no-shape-only : (l : List ℕ) → length l ≤ lineLimit → ((t : LineTree) → Shaped l t → ⊥) → readOf l ≡ refused 2
+unfolding readOf
+no-shape-only l h k = rw (le-ltb lineLimit (length l) h) (go (shapeOf l .good) refl)
+  where
+    go : (b : Bool) → shapeOf l .good ≡ b → decidedBy false b (candidateOf (shapeOf l .parts)) ≡ refused 2
+    go true e = let s = shape-sound l h e in absurd (k (s .tree) (s .shaped))
+    go false e = refl
+
+over-only : (l : List ℕ) → lineLimit < length l → readOf l ≡ refused 1
+unfolding readOf
+over-only l h = rw (lt-ltb lineLimit (length l) h)
+
+refusal-only : (l : List ℕ) (n : ℕ) → Refuses l n → readOf l ≡ refused n
+refusal-only l n (over-160 h) = over-only l h
+refusal-only l n (no-shape h k) = no-shape-only l h k
+refusal-only l n (no-opcode h t s k) = no-opcode-only l h t s k
+refusal-only l n (no-row h t s o k) = no-row-only l h t s o k
+refusal-only l n (no-fit h t s i r k) = no-fit-only l h t s i r k
+refusal-only l n (out-of-file h t s m f e) = fits-only l h t s m f ∙ rw e
+refusal-only l n (same-pair h t s m f e q) = fits-only l h t s m f ∙ rw (e, q)
+
+related-only : (l : List ℕ) (m : Record) → Relates l m → Legal m → readOf l ≡ read m
+related-only l m r h =
+    let k = legal-parts m h in
+    fits-only l (r .short) (r .tree) (r .shaped) m (record { spells = r .spells; modifiers = k .0; operands = k .1 }) ∙ rw (k .2, k .3)
+
+pub only : (l : List ℕ) (a : Answer) → Answers l a → readOf l ≡ a
+only l a (accepts m r h) = related-only l m r h
+only l a (refuses {n} r) = refusal-only l n r
+
+-- no line gets two answers
+pub answers-unique : (l : List ℕ) (a b : Answer) → Answers l a → Answers l b → a ≡ b
+answers-unique l a b x y = sym (only l a x) ∙ only l b y
+
+-- no line is related to two records
+pub one-record : (l : List ℕ) (m n : Record) → Relates l m → Relates l n → m ≡ n
+one-record l m n r q =
+    let e : seen (r .tree) ≡ seen (q .tree) = sym (is-good l (r .short) (r .tree) (r .shaped) .1) ∙ is-good l (q .short) (q .tree) (q .shaped) .1 in
+    seen-one (r .tree) (q .tree) e m n (r .spells) (q .spells)
