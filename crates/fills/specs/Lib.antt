@@ -5,3 +5,4 @@ pub mod Fills
 pub mod NameLaws
 pub mod FillComplete
 pub mod FillSound
+pub mod FillOne

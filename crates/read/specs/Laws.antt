@@ -1,5 +1,5 @@
 -- The reader's stages and the grammar agree: each line gets the answer that the grammar gives it, and no other. Assumes nothing.
-use Prim.Native.Nat.{ℕ, _≤_, _<_}
+use Prim.Native.Nat.{ℕ, zero, suc, _≤_, _<_}
 use native.Mathlib.Omega.{arith}
 use mathlib.Core.Path.{_≡_, refl, sym, ap, subst, _∙_}
 use mathlib.Core.Bool.{Bool, true, false, not, _&&_, and-eq-true-iff}
@@ -50,7 +50,7 @@ use Rattle.fills.specs.FillComplete.{fill-complete}
 use Rattle.fills.specs.FillSound.{fill-sound}
 use Rattle.fills.specs.declared.Filled
 use Rattle.fills.specs.declared.Filled.{Filled}
-use Rattle.read.specs.Mirror.{guardGood, guardIn, instructionIn, fullIs, filledIn, recordOf, candidateBy, candidateOf, firstRefusal, decided, decidedBy, readOf}
+use Rattle.read.specs.Mirror.{guardGood, guardIn, instructionIn, fullIs, filledIn, recordOf, candidateBy, candidateOf, firstRefusal, numberOf, decided, decidedBy, readOf}
 
 -- ==== what stands between the rooms
 
@@ -394,3 +394,23 @@ pub one-record : (l : List ℕ) (m n : Record) → Relates l m → Relates l n �
 one-record l m n r q =
     let e : seen (r .tree) ≡ seen (q .tree) = sym (is-good l (r .short) (r .tree) (r .shaped) .1) ∙ is-good l (q .short) (q .tree) (q .shaped) .1 in
     seen-one (r .tree) (q .tree) e m n (r .spells) (q .spells)
+
+-- ==== as the code decides: a number, 0 for none
+
+abbrev numberIs : List ℕ → ℕ
+numberIs l = numberOf (ltb lineLimit (length l)) (shapeOf l .good) (candidateOf (shapeOf l .parts))
+
+refused-is : (l : List ℕ) (n : ℕ) → n ≡ numberIs l → (n ≡ 0 → ⊥) → readOf l ≡ refused n
+unfolding readOf
+refused-is l zero e h = absurd (h refl)
+refused-is l (suc n) e h = rw (← e)
+
+read-is : (l : List ℕ) (n : ℕ) → n ≡ numberIs l → n ≡ 0 → readOf l ≡ read (candidateOf (shapeOf l .parts) .spelled)
+unfolding readOf
+read-is l n e z = rw (← e, z)
+
+pub ends-refused : (l : List ℕ) (n : ℕ) → n ≡ numberIs l → (n ≡ 0 → ⊥) → Answers l (refused n)
+ends-refused l n e h = subst (Answers l) (refused-is l n e h) (answers l)
+
+pub ends-read : (l : List ℕ) (n : ℕ) → n ≡ numberIs l → n ≡ 0 → Answers l (read (candidateOf (shapeOf l .parts) .spelled))
+ends-read l n e z = subst (Answers l) (read-is l n e z) (answers l)

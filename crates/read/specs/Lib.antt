@@ -1,3 +1,4 @@
 pub mod Paper
 pub mod Mirror
 pub mod Laws
+pub mod Promises

@@ -1,0 +1,47 @@
+use mathlib.Core.Path.{_≡_}
+use contract.Lifetimes.{Lfts}
+use borrow.Fn.Kinds.{Dens, endedOf}
+use denote.Triple.Clauses.{AtExit}
+use Rattle.read.specs.Paper.{answers-one}
+use Rattle.read.specs.declared.Reading.{Reading}
+use Rattle.read.proofs.read.Kinds as kinds
+use denote.Ref.{now}
+use Rattle.read.specs.Mirror.{stopOf}
+use Rattle.read.specs.Laws.{answers-unique, ends-refused, ends-read}
+use borrow.Author.Needs.{needs}
+use Rattle.read.proofs.read.Statement.{statement}
+use Rattle.read.proofs.read.Tie as tie
+use Rattle.read.proofs.read.Reads as reads
+
+shape-requires : tie.Need-shape-requires
+shape-requires c κs = search needs
+
+weighed-requires : tie.Need-weighed-requires
+weighed-requires c κs = search needs
+
+stopped-requires : tie.Need-stopped-requires
+stopped-requires c κs = search needs
+
+returns : tie.Need-returns
+unfolding stopOf
+returns c =
+    ends-refused (now (c .before .before .before .before .before .before .before .args .line)) _
+    (simp (c .before .before .stopped .ensures, c .before .before .before .weighed .ensures, c .before .before .before .before .before .shape .ensures))
+    (c .if1 .taken)
+
+returns-2 : tie.Need-returns-2
+unfolding stopOf
+returns-2 c =
+    rw (c .before .before .before .before .weighed .ensures, c .before .before .before .before .before .before .shape .ensures)
+    (ends-read (now (c .before .before .before .before .before .before .before .before .args .line)) _
+    (simp (c .before .before .before .stopped .ensures, c .before .before .before .before .weighed .ensures, c .before .before .before .before .before .before .shape .ensures))
+    (c .before .if1 .left))
+
+pub read-spec : {M : Type 1} → statement M
+read-spec = tie.close (tie.spec shape-requires weighed-requires stopped-requires returns returns-2)
+
+-- no two outcomes satisfy the contract as it stands in src/lib.rt
+pub read-one-outcome :
+    (κs : Lfts 1) (a : Dens κs kinds.ps) (x y : Reading) (s t : AtExit (endedOf 1 kinds.ps kinds.r) κs)
+    → reads.Post κs a x s → reads.Post κs a y t → x ≡ y
+read-one-outcome κs a x y s t p q = answers-one x y (answers-unique _ _ _ p q)

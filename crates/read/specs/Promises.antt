@@ -1,0 +1,42 @@
+-- Document 01's demand 3, and reading back of demand 2, as laws of the grammar and of `Answers`. Assumes nothing.
+use mathlib.Core.Path.{_≡_, ap, subst}
+use mathlib.Core.List.{List}
+use Prim.Native.Nat.{ℕ}
+use Rattle.record.specs.Refusals.{Legal}
+use Rattle.record.specs.declared.Record.{Record}
+use Rattle.rules.specs.StandardLine.{standard}
+use Rattle.rules.specs.StandardTree.{standard-relates}
+use Rattle.rules.specs.Reading.{Relates, Refuses, Answer, read, refused, Answers, accepts, refuses}
+use Rattle.read.specs.Laws.{answers-unique, one-record}
+
+-- a line is accepted exactly when the grammar relates it to a legal record
+pub accepted-related : (l : List ℕ) (m : Record) → Answers l (read m) → Relates l m × Legal m
+accepted-related l m (accepts n r h) = (r, h)
+
+pub related-accepted : (l : List ℕ) (m : Record) → Relates l m → Legal m → Answers l (read m)
+related-accepted l m r h = accepts m r h
+
+-- a line that is not accepted gets the first refusal that applies
+pub refused-refuses : (l : List ℕ) (n : ℕ) → Answers l (refused n) → Refuses l n
+refused-refuses l n (refuses r) = r
+
+-- every legal record has a line
+pub has-line : (m : Record) → Legal m → (l : List ℕ) × Relates l m
+has-line m h = (standard m, standard-relates m h)
+
+-- reading the standard line gives the record again
+pub standard-reads : (m : Record) → Legal m → Answers (standard m) (read m)
+standard-reads m h = accepts m (standard-relates m h) h
+
+-- two legal records with equal standard lines are equal
+pub standard-one : (m n : Record) → Legal m → Legal n → standard m ≡ standard n → m ≡ n
+standard-one m n h k e =
+    let x : read m ≡ read n = answers-unique (standard n) (read m) (read n) (subst (λ (l : List ℕ). Answers l (read m)) e (standard-reads m h)) (standard-reads n k) in
+    cc
+
+-- two accepted lines have equal records exactly when their standard lines are equal
+pub same-line : (l k : List ℕ) (m n : Record) → Answers l (read m) → Answers k (read n) → standard m ≡ standard n → m ≡ n
+same-line l k m n a b e = standard-one m n (accepted-related l m a .1) (accepted-related k n b .1) e
+
+pub same-record : (m n : Record) → m ≡ n → standard m ≡ standard n
+same-record m n e = ap standard e
