@@ -48,7 +48,7 @@ use Rattle.tree.specs.declared.Slot.{Slot}
 use Rattle.tree.specs.declared.Tree.{Tree}
 use Rattle.fills.specs.Registers.{bareWord, barePred, bareOperand, conditionOf, destinationOf}
 use Rattle.fills.specs.Selectors.{selectorOf, maskOf, digitsOf}
-use Rattle.fills.specs.Fills.{untaken, treeAt, lastBy, partBy, selectedOf, startOf, mergeForm, combineForm, formOf, scalarEnd, scalarBy, scalarOf, maskedBy, maskedOf, lanedBy, lanedOf, lanesWith, lanesBy, lanesOf, combinationOf, comparisonBy, comparisonOf, choiceBy, choiceOf, arithmeticFrom, vsetFrom, lanesFrom, setFrom, setpFrom, selpFrom, slctFrom, filledOf}
+use Rattle.fills.specs.Fills.{untaken, treeAt, lastBy, partBy, selectedOf, startOf, mergeForm, combineForm, formOf, scalarEnd, scalarBy, scalarOf, maskedBy, maskedOf, lanedBy, lanedOf, lanesWith, lanesBy, lanesOf, combinationOf, comparisonBy, comparisonOf, choiceBy, choiceOf, arithmeticFrom, vsetFrom, lanesFrom, setFrom, setpFrom, predLast, selpFrom, slctFrom, filledOf}
 use Rattle.fills.specs.NameLaws.{SelectorIs, selector-sound, selector-known, MaskIs, mask-sound, mask-known, DigitsIs, digits-sound, digits-known}
 use Rattle.fills.specs.declared.WordFound
 use Rattle.fills.specs.declared.WordFound.{WordFound}
@@ -74,6 +74,8 @@ use Rattle.fills.specs.declared.StartFound
 use Rattle.fills.specs.declared.StartFound.{StartFound}
 use Rattle.fills.specs.declared.LastFound
 use Rattle.fills.specs.declared.LastFound.{LastFound}
+use Rattle.fills.specs.declared.LastPred
+use Rattle.fills.specs.declared.LastPred.{LastPred}
 use Rattle.fills.specs.declared.FormFound
 use Rattle.fills.specs.declared.FormFound.{FormFound}
 use Rattle.fills.specs.declared.ScalarFound
@@ -290,6 +292,18 @@ last-is os (WordFound.Is w) e = go (eqb (length os) 4) refl
     go true f = listed-by os 4 (eqb-true (length os) 4 f) ∙ ap (λ (x : OperandTree). nth os 0 ∷ nth os 1 ∷ nth os 2 ∷ x ∷ []) e
     go false f = tt
 
+abbrev LastPredIs : List OperandTree → LastPred → Type 0
+LastPredIs os (LastPred.Is c) = os ≡ nth os 0 ∷ nth os 1 ∷ nth os 2 ∷ bare (p c) ∷ []
+LastPredIs os (LastPred.Wrong k) = Unit {0}
+
+last-pred-is : (os : List OperandTree) (c : PredFound) → PredIs (nth os 3) c → LastPredIs os (predLast (length os) c)
+last-pred-is os PredFound.Not e = tt
+last-pred-is os (PredFound.Is c) e = go (eqb (length os) 4) refl
+  where
+    go : (t : Bool) → eqb (length os) 4 ≡ t → LastPredIs os (cond t (LastPred.Is c) (LastPred.Wrong 4))
+    go true f = listed-by os 4 (eqb-true (length os) 4 f) ∙ ap (λ (x : OperandTree). nth os 0 ∷ nth os 1 ∷ nth os 2 ∷ x ∷ []) e
+    go false f = tt
+
 abbrev StartIs : Form → OperandTree → StartFound → Type 0
 StartIs f o (StartFound.Is (start.Plain d)) = (form.Plain noWord ≡ blankForm f) × (o ≡ bare (r d))
 StartIs f o (StartFound.Is (start.Merge d s)) = (form.Plain noWord ≡ blankForm f) × (o ≡ part (r d) (selectorName s))
@@ -445,18 +459,12 @@ setp-by os x s (DestinationFound.Is d) (ComparisonFound.Is c) e g = (
 four : {x y z u x' y' z' u' : OperandTree} → x ≡ x' → y ≡ y' → z ≡ z' → u ≡ u' → x ∷ y ∷ z ∷ u ∷ [] ≡ x' ∷ y' ∷ z' ∷ u' ∷ []
 four a b c d = rw (a, b, c, d)
 
-selp-by : (os : List OperandTree) (s : Choice) (x : Pred) (f : ChoiceFound) (c : PredFound)
-    → ChoiceIs os (s .dtype) f → PredIs (nth os 3) c → FilledIs os (Selp s x) (selpFrom f (length os) c)
+selp-by : (os : List OperandTree) (s : Choice) (x : Pred) (f : ChoiceFound) (c : LastPred)
+    → ChoiceIs os (s .dtype) f → LastPredIs os c → FilledIs os (Selp s x) (selpFrom f c)
 selp-by os s x (ChoiceFound.Wrong k) c e g = tt
-selp-by os s x (ChoiceFound.Is t) PredFound.Not e g = tt
-selp-by os s x (ChoiceFound.Is t) (PredFound.Is c) e g = go (eqb (length os) 4) refl
-  where
-    go : (b : Bool) → eqb (length os) 4 ≡ b → FilledIs os (Selp s x) (cond b (Full (Selp t c)) (Wrong 4))
-    go true h = (
-      record { operands = standing (listed-by os 4 (eqb-true (length os) 4 h) ∙ four (e .1) (e .2) (e .3) g); named = refl },
-      ap (λ (y : DataType). Selp (blankChoice y) noPred) (e .0),
-    )
-    go false h = tt
+selp-by os s x (ChoiceFound.Is u) (LastPred.Wrong k) e g = tt
+selp-by os s x (ChoiceFound.Is u) (LastPred.Is c) e g =
+    (record { operands = standing (g ∙ four (e .1) (e .2) (e .3) refl); named = refl }, ap (λ (y : DataType). Selp (blankChoice y) noPred) (e .0))
 
 slct-by : (os : List OperandTree) (t : SlctType) (s : Choice) (x : Word) (f : ChoiceFound) (c : LastFound)
     → ChoiceIs os (s .dtype) f → LastIs os c → FilledIs os (Slct t s x) (slctFrom t f c)
@@ -537,6 +545,10 @@ module _ (os : List OperandTree) (good : GoodOperands os) where
   pred-at : PredIs (nth os 3) (barePred (treeAt seen 3))
   pred-at = at-place (λ (o : OperandTree) (t : Tree). PredIs o (barePred t)) (λ o g. pred-is o) good 3 (omega arith)
 
+  pred-last-at : LastPredIs os (predLast (seen .n) (barePred (treeAt seen 3)))
+  unfolding seenOperands
+  pred-last-at = last-pred-is os (barePred (treeAt seen 3)) pred-at
+
   filled-is : (i : Instruction) → FilledIs os i (filledOf i seen)
   unfolding filledOf seenOperands
   filled-is (Arithmetic op t sat s) = arithmetic-by os op t sat s (scalarOf s seen) (scalar-at s)
@@ -544,7 +556,7 @@ module _ (os : List OperandTree) (good : GoodOperands os) where
   filled-is (VsetLanes cmp l) = lanes-at cmp l
   filled-is (Set t x s) = set-by os t x s (bareWord (treeAt seen 0)) (comparisonOf s seen) (word-at 0 (omega arith)) (comparison-at s)
   filled-is (Setp x s) = setp-by os x s (destinationOf (treeAt seen 0)) (comparisonOf s seen) destination-at (comparison-at s)
-  filled-is (Selp s x) = selp-by os s x (choiceOf s seen) (barePred (treeAt seen 3)) (choice-at s) pred-at
+  filled-is (Selp s x) = selp-by os s x (choiceOf s seen) (predLast (seen .n) (barePred (treeAt seen 3))) (choice-at s) pred-last-at
   filled-is (Slct t s x) = slct-by os t s x (choiceOf s seen) (lastBy (seen .n) (bareWord (treeAt seen 3))) (choice-at s) last-at
 
 pub fill-sound : (i j : Instruction) (os : List OperandTree) → blank i ≡ i → GoodOperands os → filledOf i (seenOperands os) ≡ Full j → OperandsSpell os j × (blank j ≡ i)

@@ -61,6 +61,8 @@ use Rattle.fills.specs.declared.StartFound
 use Rattle.fills.specs.declared.StartFound.{StartFound}
 use Rattle.fills.specs.declared.LastFound
 use Rattle.fills.specs.declared.LastFound.{LastFound}
+use Rattle.fills.specs.declared.LastPred
+use Rattle.fills.specs.declared.LastPred.{LastPred}
 use Rattle.fills.specs.declared.FormFound
 use Rattle.fills.specs.declared.FormFound.{FormFound}
 use Rattle.fills.specs.declared.ScalarFound
@@ -256,6 +258,10 @@ choiceBy t (OperandFound.Is d) (OperandFound.Is a) (OperandFound.Is b) = ChoiceF
 unfoldable pub choiceOf : Choice → Operands → ChoiceFound
 choiceOf s o = choiceBy (s .dtype) (bareOperand (treeAt o 0)) (bareOperand (treeAt o 1)) (bareOperand (treeAt o 2))
 
+abbrev pub predLast : ℕ → PredFound → LastPred
+predLast n (PredFound.Is c) = cond (eqb n 4) (LastPred.Is c) (LastPred.Wrong 4)
+predLast n PredFound.Not = LastPred.Wrong 3
+
 -- ==== the instruction
 
 abbrev pub arithmeticFrom : Arith → VideoType → Bool → ScalarFound → Filled
@@ -280,20 +286,14 @@ setpFrom DestinationFound.Not s = Wrong 0
 setpFrom (DestinationFound.Is d) (ComparisonFound.Is s) = Full (Setp d s)
 setpFrom (DestinationFound.Is d) (ComparisonFound.Wrong k) = Wrong k
 
-abbrev pub selpBy : Choice → ℕ → PredFound → Filled
-selpBy s n (PredFound.Is c) = cond (eqb n 4) (Full (Selp s c)) (Wrong 4)
-selpBy s n PredFound.Not = Wrong 3
-
-abbrev pub selpFrom : ChoiceFound → ℕ → PredFound → Filled
-selpFrom (ChoiceFound.Is s) n c = selpBy s n c
-selpFrom (ChoiceFound.Wrong k) n c = Wrong k
-
-abbrev pub slctBy : SlctType → Choice → LastFound → Filled
-slctBy t s (LastFound.Is c) = Full (Slct t s c)
-slctBy t s (LastFound.Wrong k) = Wrong k
+abbrev pub selpFrom : ChoiceFound → LastPred → Filled
+selpFrom (ChoiceFound.Is s) (LastPred.Is c) = Full (Selp s c)
+selpFrom (ChoiceFound.Is s) (LastPred.Wrong k) = Wrong k
+selpFrom (ChoiceFound.Wrong k) c = Wrong k
 
 abbrev pub slctFrom : SlctType → ChoiceFound → LastFound → Filled
-slctFrom t (ChoiceFound.Is s) c = slctBy t s c
+slctFrom t (ChoiceFound.Is s) (LastFound.Is c) = Full (Slct t s c)
+slctFrom t (ChoiceFound.Is s) (LastFound.Wrong k) = Wrong k
 slctFrom t (ChoiceFound.Wrong k) c = Wrong k
 
 unfoldable pub filledOf : Instruction → Operands → Filled
@@ -302,5 +302,5 @@ filledOf (Vset cmp s) o = vsetFrom cmp (scalarOf s o)
 filledOf (VsetLanes cmp l) o = lanesFrom cmp (lanesOf l o)
 filledOf (Set t d s) o = setFrom t (bareWord (treeAt o 0)) (comparisonOf s o)
 filledOf (Setp d s) o = setpFrom (destinationOf (treeAt o 0)) (comparisonOf s o)
-filledOf (Selp s c) o = selpFrom (choiceOf s o) (o .n) (barePred (treeAt o 3))
+filledOf (Selp s c) o = selpFrom (choiceOf s o) (predLast (o .n) (barePred (treeAt o 3)))
 filledOf (Slct t s c) o = slctFrom t (choiceOf s o) (lastBy (o .n) (bareWord (treeAt o 3)))

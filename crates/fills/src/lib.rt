@@ -36,7 +36,7 @@ ghost use Rattle.rules.specs.Names.{digitsName};
 ghost use Rattle.record.specs.Operands.{fullMask, defaultA, defaultB};
 ghost use Rattle.fills.specs.Registers.{wordOf, predOf, operandOf, bareWord, barePred, bareOperand, conditionBy, conditionOf, spotBy, spotOf, pairBy, secondBy, spotsBy, oneBy, destinationOf};
 ghost use Rattle.fills.specs.Selectors.{selectorOf, maskFound, halfMask, byteMask, maskOf, digitsIn, digitsOf};
-ghost use Rattle.fills.specs.Fills.{treeAt, wholeBy, partBy, selectedOf, startPlain, startCombine, startOf, lastBy, plainForm, mergeForm, combineForm, formOf, scalarBy, scalarEnd, scalarOf, maskedBy, maskedOf, lanedBy, lanedOf, lanesWith, lanesBy, lanesOf, aloneBy, withBy, combinationOf, comparisonBy, comparisonEnd, comparisonOf, choiceBy, choiceOf, arithmeticFrom, vsetFrom, lanesFrom, setFrom, setpFrom, selpBy, selpFrom, slctBy, slctFrom, filledOf};
+ghost use Rattle.fills.specs.Fills.{treeAt, wholeBy, partBy, selectedOf, startPlain, startCombine, startOf, lastBy, plainForm, mergeForm, combineForm, formOf, scalarBy, scalarEnd, scalarOf, maskedBy, maskedOf, lanedBy, lanedOf, lanesWith, lanesBy, lanesOf, aloneBy, withBy, combinationOf, comparisonBy, comparisonEnd, comparisonOf, choiceBy, choiceOf, arithmeticFrom, vsetFrom, lanesFrom, setFrom, setpFrom, predLast, selpFrom, slctFrom, filledOf};
 
 // The instruction with the line's operands, or the index of the first operand that is wrong.
 pub enum Filled {
@@ -515,6 +515,13 @@ fn last_by(n: usize, c: WordFound) -> LastFound
     LastFound::Wrong(4)
 }
 
+fn last_word(o: Operands) -> LastFound
+    ensures { λ r. ⌜ r ≡ lastBy (o .n) (bareWord (treeAt o 3)) ⌝ }
+{
+    let n = o.n;
+    last_by(n, bare_word(tree_at(o, 3)))
+}
+
 fn plain_form(d: Word, n: usize) -> FormFound
     ensures { λ r. ⌜ r ≡ plainForm d n ⌝ }
 {
@@ -772,12 +779,11 @@ fn lanes_with(l: Lanes, d: Masked, a: Laned, b: Laned, c: Word) -> Lanes
 fn lanes_of(l: Lanes, o: Operands) -> LanesFound
     ensures { λ r. ⌜ r ≡ lanesOf l o ⌝ }
 {
-    let n = o.n;
     let w = l.width;
     let d = masked_of(w, tree_at(o, 0));
     let a = laned_of(w, default_a(w), tree_at(o, 1));
     let b = laned_of(w, default_b(w), tree_at(o, 2));
-    lanes_by(l, d, a, b, last_by(n, bare_word(tree_at(o, 3))))
+    lanes_by(l, d, a, b, last_word(o))
 }
 
 // ---- set, setp
@@ -904,7 +910,44 @@ fn choice_of(s: Choice, o: Operands) -> ChoiceFound
     choice_by(t, d, a, bare_operand(tree_at(o, 2)))
 }
 
+// c of selp, where it is the fourth operand and the last.
+enum LastPred {
+    Is(Pred),
+    Wrong(usize),
+}
+
+fn pred_last(n: usize, c: PredFound) -> LastPred
+    ensures { λ r. ⌜ r ≡ predLast n c ⌝ }
+{
+    let PredFound::Is(p) = c else {
+        return LastPred::Wrong(3);
+    };
+    if n == 4 {
+        return LastPred::Is(p);
+    }
+    LastPred::Wrong(4)
+}
+
 // ---- the instruction
+
+fn first_word(o: Operands) -> WordFound
+    ensures { λ r. ⌜ r ≡ bareWord (treeAt o 0) ⌝ }
+{
+    bare_word(tree_at(o, 0))
+}
+
+fn first_destination(o: Operands) -> DestinationFound
+    ensures { λ r. ⌜ r ≡ destinationOf (treeAt o 0) ⌝ }
+{
+    destination_of(tree_at(o, 0))
+}
+
+fn last_pred(o: Operands) -> LastPred
+    ensures { λ r. ⌜ r ≡ predLast (o .n) (barePred (treeAt o 3)) ⌝ }
+{
+    let n = o.n;
+    pred_last(n, bare_pred(tree_at(o, 3)))
+}
 
 fn arithmetic_from(op: Arith, dtype: VideoType, sat: bool, s: ScalarFound) -> Filled
     ensures { λ r. ⌜ r ≡ arithmeticFrom op dtype sat s ⌝ }
@@ -966,37 +1009,15 @@ fn setp_from(d: DestinationFound, s: ComparisonFound) -> Filled
     }
 }
 
-fn selp_by(s: Choice, n: usize, c: PredFound) -> Filled
-    ensures { λ r. ⌜ r ≡ selpBy s n c ⌝ }
-{
-    let PredFound::Is(p) = c else {
-        return Filled::Wrong(3);
-    };
-    if n == 4 {
-        return Filled::Full(Instruction::Selp { choice: s, c: p });
-    }
-    Filled::Wrong(4)
-}
-
-fn selp_from(s: ChoiceFound, n: usize, c: PredFound) -> Filled
-    ensures { λ r. ⌜ r ≡ selpFrom s n c ⌝ }
+fn selp_from(s: ChoiceFound, last: LastPred) -> Filled
+    ensures { λ r. ⌜ r ≡ selpFrom s last ⌝ }
 {
     match s {
-        ChoiceFound::Is(choice) => selp_by(choice, n, c),
+        ChoiceFound::Is(choice) => match last {
+            LastPred::Is(c) => Filled::Full(Instruction::Selp { choice, c }),
+            LastPred::Wrong(k) => Filled::Wrong(k),
+        },
         ChoiceFound::Wrong(k) => Filled::Wrong(k),
-    }
-}
-
-fn slct_by(ctype: SlctType, s: Choice, last: LastFound) -> Filled
-    ensures { λ r. ⌜ r ≡ slctBy ctype s last ⌝ }
-{
-    match last {
-        LastFound::Is(c) => Filled::Full(Instruction::Slct {
-            ctype,
-            choice: s,
-            c,
-        }),
-        LastFound::Wrong(k) => Filled::Wrong(k),
     }
 }
 
@@ -1004,7 +1025,10 @@ fn slct_from(ctype: SlctType, s: ChoiceFound, last: LastFound) -> Filled
     ensures { λ r. ⌜ r ≡ slctFrom ctype s last ⌝ }
 {
     match s {
-        ChoiceFound::Is(choice) => slct_by(ctype, choice, last),
+        ChoiceFound::Is(choice) => match last {
+            LastFound::Is(c) => Filled::Full(Instruction::Slct { ctype, choice, c }),
+            LastFound::Wrong(k) => Filled::Wrong(k),
+        },
         ChoiceFound::Wrong(k) => Filled::Wrong(k),
     }
 }
@@ -1012,9 +1036,6 @@ fn slct_from(ctype: SlctType, s: ChoiceFound, last: LastFound) -> Filled
 pub fn fill_in(i: Instruction, operands: Operands) -> Filled
     ensures { λ r. ⌜ r ≡ filledOf i operands ⌝ }
 {
-    let n = operands.n;
-    let first = tree_at(operands, 0);
-    let last = tree_at(operands, 3);
     match i {
         Instruction::Arithmetic {
             op,
@@ -1028,20 +1049,23 @@ pub fn fill_in(i: Instruction, operands: Operands) -> Filled
             dtype,
             comparison,
             ..
-        } => set_from(dtype, bare_word(first), comparison_of(comparison, operands)),
+        } => set_from(
+            dtype,
+            first_word(operands),
+            comparison_of(comparison, operands),
+        ),
         Instruction::Setp { comparison, .. } => setp_from(
-            destination_of(first),
+            first_destination(operands),
             comparison_of(comparison, operands),
         ),
         Instruction::Selp { choice, .. } => selp_from(
             choice_of(choice, operands),
-            n,
-            bare_pred(last),
+            last_pred(operands),
         ),
         Instruction::Slct { ctype, choice, .. } => slct_from(
             ctype,
             choice_of(choice, operands),
-            last_by(n, bare_word(last)),
+            last_word(operands),
         ),
     }
 }

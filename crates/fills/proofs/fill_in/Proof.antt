@@ -11,12 +11,6 @@ use borrow.Author.Needs.{needs}
 use Rattle.fills.proofs.fill_in.Statement.{statement}
 use Rattle.fills.proofs.fill_in.Tie as tie
 
-tree-at-requires : tie.Need-tree-at-requires
-tree-at-requires c κs = search needs
-
-tree-at-requires-2 : tie.Need-tree-at-requires-2
-tree-at-requires-2 c κs = search needs
-
 enum-known-i : tie.Need-enum-known-i
 enum-known-i c = search needs
 
@@ -47,8 +41,8 @@ lanes-from-requires c κs = search needs
 enum-known-i-4 : tie.Need-enum-known-i-4
 enum-known-i-4 c = search needs
 
-bare-word-requires : tie.Need-bare-word-requires
-bare-word-requires c κs = search needs
+first-word-requires : tie.Need-first-word-requires
+first-word-requires c κs = search needs
 
 comparison-of-requires : tie.Need-comparison-of-requires
 comparison-of-requires c κs = search needs
@@ -59,8 +53,8 @@ set-from-requires c κs = search needs
 enum-known-i-5 : tie.Need-enum-known-i-5
 enum-known-i-5 c = search needs
 
-destination-of-requires : tie.Need-destination-of-requires
-destination-of-requires c κs = search needs
+first-destination-requires : tie.Need-first-destination-requires
+first-destination-requires c κs = search needs
 
 comparison-of-requires-2 : tie.Need-comparison-of-requires-2
 comparison-of-requires-2 c κs = search needs
@@ -74,8 +68,8 @@ enum-known-i-6 c = search needs
 choice-of-requires : tie.Need-choice-of-requires
 choice-of-requires c κs = search needs
 
-bare-pred-requires : tie.Need-bare-pred-requires
-bare-pred-requires c κs = search needs
+last-pred-requires : tie.Need-last-pred-requires
+last-pred-requires c κs = search needs
 
 selp-from-requires : tie.Need-selp-from-requires
 selp-from-requires c κs = search needs
@@ -86,11 +80,8 @@ enum-known-i-7 c = search needs
 choice-of-requires-2 : tie.Need-choice-of-requires-2
 choice-of-requires-2 c κs = search needs
 
-bare-word-requires-2 : tie.Need-bare-word-requires-2
-bare-word-requires-2 c κs = search needs
-
-last-by-requires : tie.Need-last-by-requires
-last-by-requires c κs = search needs
+last-word-requires : tie.Need-last-word-requires
+last-word-requires c κs = search needs
 
 slct-from-requires : tie.Need-slct-from-requires
 slct-from-requires c κs = search needs
@@ -102,8 +93,6 @@ returns c =
       c .arithmetic-from .ensures,
       c .before .scalar-of .ensures,
       c .before .before .before .i .given .1,
-      c .before .before .before .before .before .tree-at2 .ensures,
-      c .before .before .before .before .before .before .tree-at .ensures,
     )
 
 returns-2 : tie.Need-returns-2
@@ -113,8 +102,6 @@ returns-2 c =
       c .vset-from .ensures,
       c .before .scalar-of2 .ensures,
       c .before .before .before .i2 .given .1,
-      c .before .before .before .before .before .tree-at2 .ensures,
-      c .before .before .before .before .before .before .tree-at .ensures,
     )
 
 returns-3 : tie.Need-returns-3
@@ -124,8 +111,6 @@ returns-3 c =
       c .lanes-from .ensures,
       c .before .lanes-of .ensures,
       c .before .before .before .i3 .given .1,
-      c .before .before .before .before .before .tree-at2 .ensures,
-      c .before .before .before .before .before .before .tree-at .ensures,
     )
 
 returns-4 : tie.Need-returns-4
@@ -134,10 +119,8 @@ returns-4 c =
     simp (
       c .set-from .ensures,
       c .before .comparison-of .ensures,
-      c .before .before .bare-word .ensures,
+      c .before .before .first-word .ensures,
       c .before .before .before .before .i4 .given .1,
-      c .before .before .before .before .before .before .tree-at2 .ensures,
-      c .before .before .before .before .before .before .before .tree-at .ensures,
     )
 
 returns-5 : tie.Need-returns-5
@@ -146,10 +129,8 @@ returns-5 c =
     simp (
       c .setp-from .ensures,
       c .before .comparison-of2 .ensures,
-      c .before .before .destination-of .ensures,
+      c .before .before .first-destination .ensures,
       c .before .before .before .before .i5 .given .1,
-      c .before .before .before .before .before .before .tree-at2 .ensures,
-      c .before .before .before .before .before .before .before .tree-at .ensures,
     )
 
 returns-6 : tie.Need-returns-6
@@ -157,11 +138,9 @@ unfolding filledOf
 returns-6 c =
     simp (
       c .selp-from .ensures,
-      c .before .bare-pred .ensures,
+      c .before .last-pred .ensures,
       c .before .before .choice-of .ensures,
       c .before .before .before .before .i6 .given .1,
-      c .before .before .before .before .before .before .tree-at2 .ensures,
-      c .before .before .before .before .before .before .before .tree-at .ensures,
     )
 
 returns-7 : tie.Need-returns-7
@@ -169,20 +148,15 @@ unfolding filledOf
 returns-7 c =
     simp (
       c .slct-from .ensures,
-      c .before .last-by .ensures,
-      c .before .before .bare-word2 .ensures,
-      c .before .before .before .choice-of2 .ensures,
-      c .before .before .before .before .before .i7 .given .1,
-      c .before .before .before .before .before .before .before .tree-at2 .ensures,
-      c .before .before .before .before .before .before .before .before .tree-at .ensures,
+      c .before .last-word .ensures,
+      c .before .before .choice-of2 .ensures,
+      c .before .before .before .before .i7 .given .1,
     )
 
 pub fill-in-spec : {M : Type 1} → statement M
 fill-in-spec =
     tie.close
     (tie.spec
-    tree-at-requires
-    tree-at-requires-2
     enum-known-i
     scalar-of-requires
     arithmetic-from-requires
@@ -193,21 +167,20 @@ fill-in-spec =
     lanes-of-requires
     lanes-from-requires
     enum-known-i-4
-    bare-word-requires
+    first-word-requires
     comparison-of-requires
     set-from-requires
     enum-known-i-5
-    destination-of-requires
+    first-destination-requires
     comparison-of-requires-2
     setp-from-requires
     enum-known-i-6
     choice-of-requires
-    bare-pred-requires
+    last-pred-requires
     selp-from-requires
     enum-known-i-7
     choice-of-requires-2
-    bare-word-requires-2
-    last-by-requires
+    last-word-requires
     slct-from-requires
     returns
     returns-2

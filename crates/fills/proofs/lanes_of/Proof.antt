@@ -27,14 +27,8 @@ tree-at-requires-3 c κs = search needs
 laned-of-requires-2 : tie.Need-laned-of-requires-2
 laned-of-requires-2 c κs = search needs
 
-tree-at-requires-4 : tie.Need-tree-at-requires-4
-tree-at-requires-4 c κs = search needs
-
-bare-word-requires : tie.Need-bare-word-requires
-bare-word-requires c κs = search needs
-
-last-by-requires : tie.Need-last-by-requires
-last-by-requires c κs = search needs
+last-word-requires : tie.Need-last-word-requires
+last-word-requires c κs = search needs
 
 lanes-by-requires : tie.Need-lanes-by-requires
 lanes-by-requires c κs = search needs
@@ -44,17 +38,15 @@ unfolding lanesOf
 returns c =
     simp (
       c .lanes-by .ensures,
-      c .before .last-by .ensures,
-      c .before .before .bare-word .ensures,
-      c .before .before .before .tree-at4 .ensures,
-      c .before .before .before .before .laned-of2 .ensures,
-      c .before .before .before .before .before .tree-at3 .ensures,
-      c .before .before .before .before .before .before .default-b .ensures,
-      c .before .before .before .before .before .before .before .laned-of .ensures,
-      c .before .before .before .before .before .before .before .before .tree-at2 .ensures,
-      c .before .before .before .before .before .before .before .before .before .default-a .ensures,
-      c .before .before .before .before .before .before .before .before .before .before .masked-of .ensures,
-      c .before .before .before .before .before .before .before .before .before .before .before .tree-at .ensures,
+      c .before .last-word .ensures,
+      c .before .before .laned-of2 .ensures,
+      c .before .before .before .tree-at3 .ensures,
+      c .before .before .before .before .default-b .ensures,
+      c .before .before .before .before .before .laned-of .ensures,
+      c .before .before .before .before .before .before .tree-at2 .ensures,
+      c .before .before .before .before .before .before .before .default-a .ensures,
+      c .before .before .before .before .before .before .before .before .masked-of .ensures,
+      c .before .before .before .before .before .before .before .before .before .tree-at .ensures,
     )
 
 pub lanes-of-spec : {M : Type 1} → statement M
@@ -69,8 +61,6 @@ lanes-of-spec =
     default-b-requires
     tree-at-requires-3
     laned-of-requires-2
-    tree-at-requires-4
-    bare-word-requires
-    last-by-requires
+    last-word-requires
     lanes-by-requires
     returns)

@@ -1,7 +1,7 @@
 use borrow.Author.Tests.{eq-eqb, ne-eqb}
 use borrow.Author.Needs.{needs}
-use Rattle.fills.proofs.selp_by.Statement.{statement}
-use Rattle.fills.proofs.selp_by.Tie as tie
+use Rattle.fills.proofs.pred_last.Statement.{statement}
+use Rattle.fills.proofs.pred_last.Tie as tie
 
 enum-known-c : tie.Need-enum-known-c
 enum-known-c c = search needs
@@ -26,5 +26,5 @@ returns-3 c =
       c .before .before .c .given .1,
     )
 
-pub selp-by-spec : {M : Type 1} → statement M
-selp-by-spec = tie.close (tie.spec enum-known-c enum-told returns returns-2 returns-3)
+pub pred-last-spec : {M : Type 1} → statement M
+pred-last-spec = tie.close (tie.spec enum-known-c enum-told returns returns-2 returns-3)
