@@ -645,44 +645,6 @@ fn full_mask(w: LaneWidth) -> MaskFound
     }
 }
 
-fn default_a(w: LaneWidth) -> Digits
-    ensures { λ r. ⌜ r ≡ defaultA w ⌝ }
-{
-    match w {
-        LaneWidth::Half => Digits {
-            lane0: 0,
-            lane1: 1,
-            lane2: 0,
-            lane3: 0,
-        },
-        LaneWidth::Byte => Digits {
-            lane0: 0,
-            lane1: 1,
-            lane2: 2,
-            lane3: 3,
-        },
-    }
-}
-
-fn default_b(w: LaneWidth) -> Digits
-    ensures { λ r. ⌜ r ≡ defaultB w ⌝ }
-{
-    match w {
-        LaneWidth::Half => Digits {
-            lane0: 2,
-            lane1: 3,
-            lane2: 0,
-            lane3: 0,
-        },
-        LaneWidth::Byte => Digits {
-            lane0: 4,
-            lane1: 5,
-            lane2: 6,
-            lane3: 7,
-        },
-    }
-}
-
 fn masked_by(w: WordFound, m: MaskFound) -> MaskedFound
     ensures { λ r. ⌜ r ≡ maskedBy w m ⌝ }
 {
@@ -781,8 +743,8 @@ fn lanes_of(l: Lanes, o: Operands) -> LanesFound
 {
     let w = l.width;
     let d = masked_of(w, tree_at(o, 0));
-    let a = laned_of(w, default_a(w), tree_at(o, 1));
-    let b = laned_of(w, default_b(w), tree_at(o, 2));
+    let a = laned_of(w, record::default_digits(w, false), tree_at(o, 1));
+    let b = laned_of(w, record::default_digits(w, true), tree_at(o, 2));
     lanes_by(l, d, a, b, last_word(o))
 }
 

@@ -448,70 +448,12 @@ fn read_vset(head: Head) -> Read
     vset_by(n, read_compared(head), read_ending(head, 4))
 }
 
-// The defaults of vset2 and vset4: a bare operand holds them.
-fn full_mask(w: LaneWidth) -> Mask
-    ensures { λ r. ⌜ r ≡ fullMask w ⌝ }
-{
-    match w {
-        LaneWidth::Half => Mask {
-            lane0: true,
-            lane1: true,
-            lane2: false,
-            lane3: false,
-        },
-        LaneWidth::Byte => Mask {
-            lane0: true,
-            lane1: true,
-            lane2: true,
-            lane3: true,
-        },
-    }
-}
-
-fn default_a(w: LaneWidth) -> Digits
-    ensures { λ r. ⌜ r ≡ defaultA w ⌝ }
-{
-    match w {
-        LaneWidth::Half => Digits {
-            lane0: 0,
-            lane1: 1,
-            lane2: 0,
-            lane3: 0,
-        },
-        LaneWidth::Byte => Digits {
-            lane0: 0,
-            lane1: 1,
-            lane2: 2,
-            lane3: 3,
-        },
-    }
-}
-
-fn default_b(w: LaneWidth) -> Digits
-    ensures { λ r. ⌜ r ≡ defaultB w ⌝ }
-{
-    match w {
-        LaneWidth::Half => Digits {
-            lane0: 2,
-            lane1: 3,
-            lane2: 0,
-            lane3: 0,
-        },
-        LaneWidth::Byte => Digits {
-            lane0: 4,
-            lane1: 5,
-            lane2: 6,
-            lane3: 7,
-        },
-    }
-}
-
 fn blank_lanes(width: LaneWidth, atype: VideoType, btype: VideoType, add: bool) -> Lanes
     ensures { λ r. ⌜ r ≡ lanesOf width atype btype add ⌝ }
 {
-    let mask = full_mask(width);
-    let asel = default_a(width);
-    let bsel = default_b(width);
+    let mask = record::full_mask(width);
+    let asel = record::default_digits(width, false);
+    let bsel = record::default_digits(width, true);
     Lanes {
         width,
         atype,
@@ -545,7 +487,8 @@ fn read_lanes(width: LaneWidth, head: Head) -> Read
     ensures { λ r. ⌜ r ≡ lanesRow width head ⌝ }
 {
     let n = head.n;
-    let add = name(head, 4) == ADD;
+    let last = name(head, 4);
+    let add = last == ADD;
     lanes_by(n, width, read_compared(head), add)
 }
 

@@ -271,6 +271,6 @@ pub fn read(line: &[u8]) -> Reading
     if s.number != 0 {
         return Reading::Refused(s.number);
     }
-    let r = c.spelled;
-    Reading::Record(r)
+    let spelled = c.spelled;
+    Reading::Record(spelled)
 }

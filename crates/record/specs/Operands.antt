@@ -1,6 +1,6 @@
 -- Document 01, "Operands", of the record: what its type leaves open of each sentence. Register numbers and pairs aside.
 use Prim.Native.Nat.{ℕ}
-use mathlib.Core.Bool.{Bool, true, false, not, _&&_, _||_}
+use mathlib.Core.Bool.{Bool, true, false, not, _&&_, _||_, cond}
 use lib.Dec.{leb, eqb}
 use Rattle.record.specs.declared.DataType.{DataType}
 use Rattle.record.specs.declared.DataType.the-variants.{B32, B64, U32, U64, S32, S64, F32, F64}
@@ -66,6 +66,10 @@ defaultA Byte = record { lane0 = 0; lane1 = 1; lane2 = 2; lane3 = 3 }
 abbrev pub defaultB : LaneWidth → Digits
 defaultB Half = record { lane0 = 2; lane1 = 3; lane2 = 0; lane3 = 0 }
 defaultB Byte = record { lane0 = 4; lane1 = 5; lane2 = 6; lane3 = 7 }
+
+-- of a, or of b
+abbrev pub defaultDigits : LaneWidth → Bool → Digits
+defaultDigits w ofB = cond ofB (defaultB w) (defaultA w)
 
 -- All video registers are `%r`. c is bare: held by the type `Lanes`
 abbrev pub lanesFit : Lanes → Bool

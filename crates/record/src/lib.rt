@@ -3,7 +3,7 @@
 ghost use mathlib.Core.Path.{_≡_};
 ghost use Rattle.record.specs.Registers.{wordInFile, doubleInFile, predInFile};
 ghost use Rattle.record.specs.Modifiers.{kindOf, isEqNe, isSix, isUnsignedOp, isFloatOp, cmpFits, isF32, ftzFits, comparisonFits, instructionModifiersFit, modifiersFit};
-ghost use Rattle.record.specs.Operands.{typeBits, operandBits, byWidth, someLane, spareLanesFit, maskFits, highestDigit, digitFits, spareDigitFits, digitsFit, lanesFit, sourcesFit, choiceFits, instructionOperandsFit, operandsFit};
+ghost use Rattle.record.specs.Operands.{typeBits, operandBits, byWidth, someLane, spareLanesFit, maskFits, highestDigit, digitFits, spareDigitFits, digitsFit, lanesFit, sourcesFit, choiceFits, instructionOperandsFit, operandsFit, fullMask, defaultA, defaultB, defaultDigits};
 ghost use Rattle.record.specs.Refusals.{conditionInRange, guardInRange, selectedInRange, formInRange, scalarInRange, lanesInRange, operandInRange, combinationInRange, comparisonInRange, destinationInRange, choiceInRange, instructionInRange, numbersInRange, destinationApart, instructionApart, pairApart, isLegal};
 
 // Word, double-word and predicate numbers are kept apart. Each holds every number that a line can spell, 0 to 999.
@@ -733,4 +733,70 @@ pub fn legal(r: Record) -> bool
     ensures { λ x. ⌜ x ≡ isLegal r ⌝ }
 {
     modifiers_fit(r) & operands_fit(r) & numbers_in_range(r) & pair_apart(r)
+}
+
+// ---- what stands where a mask or selector of vset2 or vset4 is left out
+
+pub fn full_mask(w: LaneWidth) -> Mask
+    ensures { λ m. ⌜ m ≡ fullMask w ⌝ }
+{
+    match w {
+        LaneWidth::Half => Mask {
+            lane0: true,
+            lane1: true,
+            lane2: false,
+            lane3: false,
+        },
+        LaneWidth::Byte => Mask {
+            lane0: true,
+            lane1: true,
+            lane2: true,
+            lane3: true,
+        },
+    }
+}
+
+fn default_a(w: LaneWidth) -> Digits
+    ensures { λ m. ⌜ m ≡ defaultA w ⌝ }
+{
+    match w {
+        LaneWidth::Half => Digits {
+            lane0: 0,
+            lane1: 1,
+            lane2: 0,
+            lane3: 0,
+        },
+        LaneWidth::Byte => Digits {
+            lane0: 0,
+            lane1: 1,
+            lane2: 2,
+            lane3: 3,
+        },
+    }
+}
+
+fn default_b(w: LaneWidth) -> Digits
+    ensures { λ m. ⌜ m ≡ defaultB w ⌝ }
+{
+    match w {
+        LaneWidth::Half => Digits {
+            lane0: 2,
+            lane1: 3,
+            lane2: 0,
+            lane3: 0,
+        },
+        LaneWidth::Byte => Digits {
+            lane0: 4,
+            lane1: 5,
+            lane2: 6,
+            lane3: 7,
+        },
+    }
+}
+
+// The selector of a, or of b.
+pub fn default_digits(w: LaneWidth, of_b: bool) -> Digits
+    ensures { λ m. ⌜ m ≡ defaultDigits w «of_b» ⌝ }
+{
+    if of_b { default_b(w) } else { default_a(w) }
 }

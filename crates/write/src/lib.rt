@@ -36,7 +36,7 @@ ghost use mathlib.Core.List.{[], _∷_, _++_};
 ghost use Prim.Native.Nat.{_≤_};
 ghost use lib.ListN.{length, take, drop};
 ghost use Rattle.base.specs.Text.{bytes};
-ghost use Rattle.record.specs.Operands.{fullMask, defaultA, defaultB};
+ghost use Rattle.record.specs.Operands.{fullMask};
 ghost use Rattle.rules.specs.Executing.{operandPlace, double};
 ghost use Rattle.record.specs.declared.CmpOp.the-variants.{Unsigned, Float};
 ghost use Rattle.record.specs.declared.Instruction.the-variants.{Arithmetic, Vset, VsetLanes, Set, Setp, Selp, Slct};
@@ -502,63 +502,6 @@ fn put_scalar(l: Line, s: Scalar) -> Line
 
 // ---- operands of vset2 and vset4: default masks and selectors are left out
 
-fn full_mask(w: LaneWidth) -> Mask
-    ensures { λ m. ⌜ m ≡ fullMask w ⌝ }
-{
-    match w {
-        LaneWidth::Half => Mask {
-            lane0: true,
-            lane1: true,
-            lane2: false,
-            lane3: false,
-        },
-        LaneWidth::Byte => Mask {
-            lane0: true,
-            lane1: true,
-            lane2: true,
-            lane3: true,
-        },
-    }
-}
-
-fn default_a(w: LaneWidth) -> Digits
-    ensures { λ m. ⌜ m ≡ defaultA w ⌝ }
-{
-    match w {
-        LaneWidth::Half => Digits {
-            lane0: 0,
-            lane1: 1,
-            lane2: 0,
-            lane3: 0,
-        },
-        LaneWidth::Byte => Digits {
-            lane0: 0,
-            lane1: 1,
-            lane2: 2,
-            lane3: 3,
-        },
-    }
-}
-
-fn default_b(w: LaneWidth) -> Digits
-    ensures { λ m. ⌜ m ≡ defaultB w ⌝ }
-{
-    match w {
-        LaneWidth::Half => Digits {
-            lane0: 2,
-            lane1: 3,
-            lane2: 0,
-            lane3: 0,
-        },
-        LaneWidth::Byte => Digits {
-            lane0: 4,
-            lane1: 5,
-            lane2: 6,
-            lane3: 7,
-        },
-    }
-}
-
 fn same_mask(x: Mask, y: Mask) -> bool
     ensures { λ m. ⌜ m ≡ sameMask x y ⌝ }
 {
@@ -591,7 +534,7 @@ fn put_mask_name(l: Line, w: LaneWidth, k: Mask) -> Line
 fn put_mask(l: Line, w: LaneWidth, d: Word, k: Mask) -> Line
     ensures { λ m. ⌜ Adds (textOf l) (operandText (maskTree w d k)) (textOf m) ⌝ }
 {
-    if same_mask(k, full_mask(w)) {
+    if same_mask(k, record::full_mask(w)) {
         return put_word(l, d);
     }
     put_mask_name(push(put_word(l, d), b'.'), w, k)
@@ -624,8 +567,20 @@ fn put_lanes(l: Line, s: Lanes) -> Line
 {
     let width = s.width;
     let l1 = put_mask(l, width, s.d, s.mask);
-    let l2 = put_digits(put_comma(l1), width, default_a(width), s.a, s.asel);
-    let l3 = put_digits(put_comma(l2), width, default_b(width), s.b, s.bsel);
+    let l2 = put_digits(
+        put_comma(l1),
+        width,
+        record::default_digits(width, false),
+        s.a,
+        s.asel,
+    );
+    let l3 = put_digits(
+        put_comma(l2),
+        width,
+        record::default_digits(width, true),
+        s.b,
+        s.bsel,
+    );
     put_word(put_comma(l3), s.c)
 }
 

@@ -9,8 +9,8 @@ tree-at-requires c κs = search needs
 masked-of-requires : tie.Need-masked-of-requires
 masked-of-requires c κs = search needs
 
-default-a-requires : tie.Need-default-a-requires
-default-a-requires c κs = search needs
+default-digits-requires : tie.Need-default-digits-requires
+default-digits-requires c κs = search needs
 
 tree-at-requires-2 : tie.Need-tree-at-requires-2
 tree-at-requires-2 c κs = search needs
@@ -18,8 +18,8 @@ tree-at-requires-2 c κs = search needs
 laned-of-requires : tie.Need-laned-of-requires
 laned-of-requires c κs = search needs
 
-default-b-requires : tie.Need-default-b-requires
-default-b-requires c κs = search needs
+default-digits-requires-2 : tie.Need-default-digits-requires-2
+default-digits-requires-2 c κs = search needs
 
 tree-at-requires-3 : tie.Need-tree-at-requires-3
 tree-at-requires-3 c κs = search needs
@@ -41,10 +41,10 @@ returns c =
       c .before .last-word .ensures,
       c .before .before .laned-of2 .ensures,
       c .before .before .before .tree-at3 .ensures,
-      c .before .before .before .before .default-b .ensures,
+      c .before .before .before .before .default-digits2 .ensures,
       c .before .before .before .before .before .laned-of .ensures,
       c .before .before .before .before .before .before .tree-at2 .ensures,
-      c .before .before .before .before .before .before .before .default-a .ensures,
+      c .before .before .before .before .before .before .before .default-digits .ensures,
       c .before .before .before .before .before .before .before .before .masked-of .ensures,
       c .before .before .before .before .before .before .before .before .before .tree-at .ensures,
     )
@@ -55,10 +55,10 @@ lanes-of-spec =
     (tie.spec
     tree-at-requires
     masked-of-requires
-    default-a-requires
+    default-digits-requires
     tree-at-requires-2
     laned-of-requires
-    default-b-requires
+    default-digits-requires-2
     tree-at-requires-3
     laned-of-requires-2
     last-word-requires

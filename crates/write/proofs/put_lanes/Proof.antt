@@ -9,8 +9,8 @@ put-mask-requires c κs = search needs
 put-comma-requires : tie.Need-put-comma-requires
 put-comma-requires c κs = search needs
 
-default-a-requires : tie.Need-default-a-requires
-default-a-requires c κs = search needs
+default-digits-requires : tie.Need-default-digits-requires
+default-digits-requires c κs = search needs
 
 put-digits-requires : tie.Need-put-digits-requires
 put-digits-requires c κs = search needs
@@ -18,8 +18,8 @@ put-digits-requires c κs = search needs
 put-comma-requires-2 : tie.Need-put-comma-requires-2
 put-comma-requires-2 c κs = search needs
 
-default-b-requires : tie.Need-default-b-requires
-default-b-requires c κs = search needs
+default-digits-requires-2 : tie.Need-default-digits-requires-2
+default-digits-requires-2 c κs = search needs
 
 put-digits-requires-2 : tie.Need-put-digits-requires-2
 put-digits-requires-2 c κs = search needs
@@ -31,7 +31,7 @@ put-word-requires : tie.Need-put-word-requires
 put-word-requires c κs = search needs
 
 returns : tie.Need-returns
-returns c = c .before .before .before .before .before .before .before .before .put-mask .ensures then (c .before .before .before .before .before .before .before .put-comma .ensures then rw (c .before .before .before .before .before .before .default-a .ensures) at (c .before .before .before .before .before .put-digits .ensures)) then (c .before .before .before .before .put-comma2 .ensures then rw (c .before .before .before .default-b .ensures) at (c .before .before .put-digits2 .ensures)) then ends (c .before .put-comma3 .ensures then c .put-word .ensures)
+returns c = c .before .before .before .before .before .before .before .before .put-mask .ensures then (c .before .before .before .before .before .before .before .put-comma .ensures then rw (c .before .before .before .before .before .before .default-digits .ensures) at (c .before .before .before .before .before .put-digits .ensures)) then (c .before .before .before .before .put-comma2 .ensures then rw (c .before .before .before .default-digits2 .ensures) at (c .before .before .put-digits2 .ensures)) then ends (c .before .put-comma3 .ensures then c .put-word .ensures)
 
 pub put-lanes-spec : {M : Type 1} → statement M
 put-lanes-spec =
@@ -39,10 +39,10 @@ put-lanes-spec =
     (tie.spec
     put-mask-requires
     put-comma-requires
-    default-a-requires
+    default-digits-requires
     put-digits-requires
     put-comma-requires-2
-    default-b-requires
+    default-digits-requires-2
     put-digits-requires-2
     put-comma-requires-3
     put-word-requires

@@ -1,6 +1,6 @@
 use borrow.Author.Needs.{needs}
-use Rattle.write.proofs.full_mask.Statement.{statement}
-use Rattle.write.proofs.full_mask.Tie as tie
+use Rattle.record.proofs.default_b.Statement.{statement}
+use Rattle.record.proofs.default_b.Tie as tie
 
 enum-told : tie.Need-enum-told
 enum-told c = search needs
@@ -14,5 +14,5 @@ returns c = rw (c .enum-told .given .1)
 returns-2 : tie.Need-returns-2
 returns-2 c = rw (c .enum-told2 .given .1)
 
-pub full-mask-spec : {M : Type 1} → statement M
-full-mask-spec = tie.close (tie.spec enum-told enum-told-2 returns returns-2)
+pub default-b-spec : {M : Type 1} → statement M
+default-b-spec = tie.close (tie.spec enum-told enum-told-2 returns returns-2)

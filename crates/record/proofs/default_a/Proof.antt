@@ -1,6 +1,6 @@
 use borrow.Author.Needs.{needs}
-use Rattle.heads.proofs.default_a.Statement.{statement}
-use Rattle.heads.proofs.default_a.Tie as tie
+use Rattle.record.proofs.default_a.Statement.{statement}
+use Rattle.record.proofs.default_a.Tie as tie
 
 enum-told : tie.Need-enum-told
 enum-told c = search needs
@@ -9,14 +9,10 @@ enum-told-2 : tie.Need-enum-told-2
 enum-told-2 c = search needs
 
 returns : tie.Need-returns
-returns c =
-    simp
-    (c .enum-told .given .1)
+returns c = rw (c .enum-told .given .1)
 
 returns-2 : tie.Need-returns-2
-returns-2 c =
-    simp
-    (c .enum-told2 .given .1)
+returns-2 c = rw (c .enum-told2 .given .1)
 
 pub default-a-spec : {M : Type 1} → statement M
 default-a-spec = tie.close (tie.spec enum-told enum-told-2 returns returns-2)
