@@ -1,3 +1,11 @@
+use mathlib.Core.Path.{_≡_}
+use contract.Lifetimes.{Lfts}
+use borrow.Fn.Kinds.{Dens, endedOf}
+use denote.Triple.Clauses.{AtExit}
+use Rattle.base.specs.Promise.{one-outcome}
+use Prim.Native.Nat.{ℕ}
+use Rattle.scan.proofs.further.Kinds as kinds
+use Rattle.scan.proofs.further.Reads as reads
 use Rattle.scan.specs.Runs.{sum}
 use borrow.Author.Tests.{le-leb, lt-leb}
 use borrow.Author.Needs.{needs}
@@ -24,3 +32,9 @@ returns-2 c =
 
 pub further-spec : {M : Type 1} → statement M
 further-spec = tie.close (tie.spec sub-if1 add-result returns returns-2)
+
+-- no two outcomes satisfy the contract as it stands in src/lib.rt
+pub further-one-outcome :
+    (κs : Lfts 0) (a : Dens κs kinds.ps) (x y : ℕ) (s t : AtExit (endedOf 0 kinds.ps kinds.r) κs)
+    → reads.Post κs a x s → reads.Post κs a y t → x ≡ y
+further-one-outcome κs a x y s t p q = one-outcome p q

@@ -1,3 +1,11 @@
+use mathlib.Core.Path.{_≡_}
+use contract.Lifetimes.{Lfts}
+use borrow.Fn.Kinds.{Dens, endedOf}
+use denote.Triple.Clauses.{AtExit}
+use Rattle.base.specs.Promise.{one-outcome}
+use Rattle.scan.specs.declared.Register.{Register}
+use Rattle.scan.proofs.read_register.Kinds as kinds
+use Rattle.scan.proofs.read_register.Reads as reads
 use Rattle.scan.specs.Registers.{registerOf}
 use borrow.Author.Needs.{needs}
 use Rattle.scan.proofs.read_register.Statement.{statement}
@@ -39,3 +47,9 @@ read-register-spec =
     prefix-by-requires
     register-by-requires
     returns)
+
+-- no two outcomes satisfy the contract as it stands in src/lib.rt
+pub read-register-one-outcome :
+    (κs : Lfts 1) (a : Dens κs kinds.ps) (x y : Register) (s t : AtExit (endedOf 1 kinds.ps kinds.r) κs)
+    → reads.Post κs a x s → reads.Post κs a y t → x ≡ y
+read-register-one-outcome κs a x y s t p q = one-outcome p q

@@ -1,3 +1,12 @@
+use mathlib.Core.Path.{_≡_}
+use contract.Lifetimes.{Lfts}
+use borrow.Fn.Kinds.{Dens, endedOf}
+use denote.Triple.Clauses.{AtExit}
+use Rattle.base.specs.Promise.{one-outcome}
+use borrow.Fn.World.{ResD}
+use Rattle.scan.proofs.rest.{signature}
+use Rattle.scan.proofs.rest.Kinds as kinds
+use Rattle.scan.proofs.rest.Reads as reads
 use denote.Ref.{now}
 use mathlib.Core.Path.{sym}
 use lib.ListN.{drop-of-length-le}
@@ -35,3 +44,9 @@ rest-spec =
     slice-aggregate-result
     returns
     returns-2)
+
+-- no two outcomes satisfy the contract as it stands in src/lib.rt
+pub rest-one-outcome :
+    (κs : Lfts 1) (a : Dens κs kinds.ps) (x y : ResD signature κs) (s t : AtExit (endedOf 1 kinds.ps kinds.r) κs)
+    → reads.Post κs a x s → reads.Post κs a y t → now x ≡ now y
+rest-one-outcome κs a x y s t p q = one-outcome p q

@@ -1,3 +1,10 @@
+use contract.Lifetimes.{Lfts}
+use borrow.Fn.Kinds.{Dens, endedOf}
+use denote.Triple.Clauses.{AtExit}
+use Rattle.base.specs.Promise.{one-outcome}
+use Prim.Native.Nat.{ℕ}
+use Rattle.scan.proofs.run_len.Kinds as kinds
+use Rattle.scan.proofs.run_len.Reads as reads
 use denote.Ref.{now}
 use Rattle.scan.specs.RunLaws.{run-stops, run-turns, run-ends}
 use Prim.Native.Nat.{_≤_, _+_, _-_}
@@ -54,3 +61,9 @@ run-len-spec =
     loop-less
     loop-again
     returns-2)
+
+-- no two outcomes satisfy the contract as it stands in src/lib.rt
+pub run-len-one-outcome :
+    (κs : Lfts 1) (a : Dens κs kinds.ps) (x y : ℕ) (s t : AtExit (endedOf 1 kinds.ps kinds.r) κs)
+    → reads.Post κs a x s → reads.Post κs a y t → x ≡ y
+run-len-one-outcome κs a x y s t p q = one-outcome p q
