@@ -2,3 +2,4 @@ pub mod Paper
 pub mod Mirror
 pub mod Laws
 pub mod Promises
+pub mod FirstRefusal

@@ -2,12 +2,14 @@
 use mathlib.Core.Path.{_≡_, ap, subst}
 use mathlib.Core.List.{List}
 use Prim.Native.Nat.{ℕ}
+use native.Mathlib.Omega.{arith}
 use Rattle.record.specs.Refusals.{Legal}
 use Rattle.record.specs.declared.Record.{Record}
 use Rattle.rules.specs.StandardLine.{standard}
 use Rattle.rules.specs.StandardTree.{standard-relates}
 use Rattle.rules.specs.Reading.{Relates, Refuses, Answer, read, refused, Answers, accepts, refuses}
-use Rattle.read.specs.Laws.{answers-unique, one-record}
+use Rattle.read.specs.Laws.{answers, answers-unique}
+use Rattle.read.specs.Mirror.{readOf}
 
 -- a line is accepted exactly when the grammar relates it to a legal record
 pub accepted-related : (l : List ℕ) (m : Record) → Answers l (read m) → Relates l m × Legal m
@@ -19,6 +21,23 @@ related-accepted l m r h = accepts m r h
 -- a line that is not accepted gets the first refusal that applies
 pub refused-refuses : (l : List ℕ) (n : ℕ) → Answers l (refused n) → Refuses l n
 refused-refuses l n (refuses r) = r
+
+pub refuses-refused : (l : List ℕ) (n : ℕ) → Refuses l n → Answers l (refused n)
+refuses-refused l n r = refuses r
+
+-- a line that is refused is related to no legal record, and one that is related to none is refused
+pub refused-unrelated : (l : List ℕ) (n : ℕ) (m : Record) → Answers l (refused n) → Relates l m → Legal m → ⊥
+refused-unrelated l n m r q k =
+    let e : refused n ≡ read m = answers-unique l (refused n) (read m) r (accepts m q k) in
+    let z : _≡_ {A = ℕ} 0 1 = cc in
+    omega arith
+
+pub unrelated-refused : (l : List ℕ) → ((m : Record) → Relates l m → Legal m → ⊥) → (n : ℕ) × Answers l (refused n)
+unrelated-refused l h = go (readOf l) (answers l)
+  where
+    go : (a : Answer) → Answers l a → (n : ℕ) × Answers l (refused n)
+    go (read m) (accepts n r k) = absurd (h m r k)
+    go (refused n) (refuses r) = (n, refuses r)
 
 -- every legal record has a line
 pub has-line : (m : Record) → Legal m → (l : List ℕ) × Relates l m
