@@ -1,0 +1,34 @@
+// The bench: a line is read, a record is written, a record is executed. What the three promise together stands in specs/Demands.antt.
+use execute::Executed;
+use read::Reading;
+use record::Record;
+use write::Written;
+ghost use mathlib.Core.Path.{_≡_};
+ghost use Rattle.rules.specs.Executing.{files, run};
+ghost use Rattle.rules.specs.Executing as executing;
+ghost use Rattle.rules.specs.Reading.{Answers};
+ghost use Rattle.rules.specs.Writing.{outcome, writing};
+ghost use Rattle.execute.specs.Answers as executed;
+ghost use Rattle.read.specs.Paper.{answerOf};
+ghost use Rattle.write.specs.Answers as written;
+
+// The record that the line spells, or the first refusal of 1 to 7 that applies.
+pub fn read(line: &[u8]) -> Reading
+    ensures { λ a. ⌜ Answers (now (line .entry)) (answerOf a) ⌝ }
+{
+    read::read(line)
+}
+
+// The record's standard line at the front of buf, and its length; or 8 or 9, and buf as it was.
+pub fn write(r: Record, buf: &mut [u8]) -> Written
+    ensures { λ a. ⌜ outcome (written.answerOf a) (now (buf .exit)) ≡ writing r (now (buf .entry)) ⌝ }
+{
+    write::write(r, buf)
+}
+
+// The record executed on the files, or skipped; or 8, 10 or 11, and the files as they were.
+pub fn execute(r: Record, words: &mut [u32], doubles: &mut [u64], preds: &mut [u8]) -> Executed
+    ensures { λ a. ⌜ executing.outcome (executed.answerOf a) (files (now (words .exit)) (now (doubles .exit)) (now (preds .exit))) ≡ run r (files (now (words .entry)) (now (doubles .entry)) (now (preds .entry))) ⌝ }
+{
+    execute::execute(r, words, doubles, preds)
+}
