@@ -1,0 +1,1149 @@
+/*
+ * The listing program of the PTX line bench, worked out from document 01.
+ *
+ * It reads a listing from standard input, reads each line into a record,
+ * executes the record, and writes one answer per line and, at the end, the
+ * registers that differ from their start value.
+ *
+ * Build:  cc -std=c11 -O2 -Wall -Wextra -Werror second.c -o second
+ *   -DRAW_IO  uses read and write of <unistd.h> in place of <stdio.h>
+ *   -DOWN_IO  leaves read_input and write_output to another file
+ */
+
+#include <stdbool.h>
+#include <stddef.h>
+#include <stdint.h>
+#include <string.h>
+
+typedef unsigned char Byte;
+
+/* ------------------------------------------------------------------------
+ * Input and output: these two functions and nothing else touch the outside.
+ *
+ * read_input stores bytes of standard input until `most` are stored or the
+ * input ends, and returns how many; write_output writes `count` bytes.
+ * ------------------------------------------------------------------------ */
+
+#if defined OWN_IO
+
+size_t read_input(Byte *to, size_t most);
+void write_output(const Byte *from, size_t count);
+
+#elif defined RAW_IO
+
+#include <unistd.h>
+
+static size_t read_input(Byte *to, size_t most)
+{
+    size_t have = 0;
+    while (have < most) {
+        ssize_t got = read(0, to + have, most - have);
+        if (got <= 0)
+            break;
+        have += (size_t)got;
+    }
+    return have;
+}
+
+static void write_output(const Byte *from, size_t count)
+{
+    while (count > 0) {
+        ssize_t put = write(1, from, count);
+        if (put <= 0)
+            _exit(1);
+        from += put;
+        count -= (size_t)put;
+    }
+}
+
+#else
+
+#include <stdio.h>
+#include <stdlib.h>
+
+static size_t read_input(Byte *to, size_t most)
+{
+    return fread(to, 1, most, stdin);
+}
+
+static void write_output(const Byte *from, size_t count)
+{
+    if (fwrite(from, 1, count, stdout) != count || fflush(stdout) != 0)
+        exit(EXIT_FAILURE);
+}
+
+#endif
+
+/* ------------------------------------------------------------------------
+ * Sizes and refusals
+ * ------------------------------------------------------------------------ */
+
+enum {
+    INPUT_MOST = 65536,
+    LINE_MOST = 160,
+    R_COUNT = 64,
+    RD_COUNT = 32,
+    P_COUNT = 16
+};
+
+typedef enum {
+    ACCEPTED = 0,
+    TOO_LONG = 1,
+    NO_SHAPE = 2,
+    NO_OPCODE = 3,
+    BAD_MODIFIERS = 4,
+    BAD_OPERANDS = 5,
+    BAD_NUMBER = 6,
+    SAME_PLACES = 7
+} Refusal;
+
+/* ------------------------------------------------------------------------
+ * Words: the names that may stand in a head.  Words of one class stand
+ * together, in the order the range tests below rely on.
+ * ------------------------------------------------------------------------ */
+
+typedef enum {
+    W_NONE,    /* no name stands here */
+    W_OTHER,   /* a name that is none of the words */
+    W_VADD, W_VSUB, W_VABSDIFF, W_VMIN, W_VMAX,
+    W_VSET, W_VSET2, W_VSET4, W_SET, W_SETP, W_SELP, W_SLCT,
+    W_U32, W_S32, W_F32, W_B32, W_B64, W_U64, W_S64, W_F64,
+    W_EQ, W_NE, W_LT, W_LE, W_GT, W_GE,
+    W_LO, W_LS, W_HI, W_HS,
+    W_EQU, W_NEU, W_LTU, W_LEU, W_GTU, W_GEU, W_NUM, W_NAN,
+    W_ADD, W_MIN, W_MAX,
+    W_AND, W_OR, W_XOR,
+    W_SAT, W_FTZ,
+    WORD_COUNT
+} Word;
+
+static const char *const spelling[WORD_COUNT] = {
+    [W_VADD] = "vadd", [W_VSUB] = "vsub", [W_VABSDIFF] = "vabsdiff",
+    [W_VMIN] = "vmin", [W_VMAX] = "vmax", [W_VSET] = "vset",
+    [W_VSET2] = "vset2", [W_VSET4] = "vset4", [W_SET] = "set",
+    [W_SETP] = "setp", [W_SELP] = "selp", [W_SLCT] = "slct",
+    [W_U32] = "u32", [W_S32] = "s32", [W_F32] = "f32", [W_B32] = "b32",
+    [W_B64] = "b64", [W_U64] = "u64", [W_S64] = "s64", [W_F64] = "f64",
+    [W_EQ] = "eq", [W_NE] = "ne", [W_LT] = "lt", [W_LE] = "le",
+    [W_GT] = "gt", [W_GE] = "ge",
+    [W_LO] = "lo", [W_LS] = "ls", [W_HI] = "hi", [W_HS] = "hs",
+    [W_EQU] = "equ", [W_NEU] = "neu", [W_LTU] = "ltu", [W_LEU] = "leu",
+    [W_GTU] = "gtu", [W_GEU] = "geu", [W_NUM] = "num", [W_NAN] = "nan",
+    [W_ADD] = "add", [W_MIN] = "min", [W_MAX] = "max",
+    [W_AND] = "and", [W_OR] = "or", [W_XOR] = "xor",
+    [W_SAT] = "sat", [W_FTZ] = "ftz"
+};
+
+static bool is_opcode(Word w)     { return w >= W_VADD && w <= W_SLCT; }
+static bool is_video_type(Word w) { return w == W_U32 || w == W_S32; }
+static bool is_set_dtype(Word w)  { return w >= W_U32 && w <= W_F32; }
+static bool is_type(Word w)       { return w >= W_U32 && w <= W_F64; }
+static bool is_wide(Word w)       { return w >= W_B64 && w <= W_F64; }
+static bool is_cmp6(Word w)       { return w >= W_EQ && w <= W_GE; }
+static bool is_op2(Word w)        { return w >= W_ADD && w <= W_MAX; }
+static bool is_bool_op(Word w)    { return w >= W_AND && w <= W_XOR; }
+
+/* CmpOp by stype. */
+static bool compares(Word cmp, Word stype)
+{
+    switch (stype) {
+    case W_B32: case W_B64:
+        return cmp == W_EQ || cmp == W_NE;
+    case W_S32: case W_S64:
+        return is_cmp6(cmp);
+    case W_U32: case W_U64:
+        return cmp >= W_EQ && cmp <= W_HS;
+    case W_F32: case W_F64:
+        return is_cmp6(cmp) || (cmp >= W_EQU && cmp <= W_NAN);
+    default:
+        return false;
+    }
+}
+
+/*
+ * A name is carried as a key: its bytes packed into 64 bits, the first byte
+ * lowest.  No name of interest has more than eight bytes; a longer one gets
+ * KEY_LONG, which no packed name can equal.  The key 0 means no name.
+ */
+typedef uint64_t Key;
+
+#define KEY_LONG UINT64_MAX
+
+enum { DICTIONARY_SIZE = 256 };
+
+static struct {
+    Key key;
+    Word word;
+} dictionary[DICTIONARY_SIZE];
+
+static unsigned dictionary_slot(Key key)
+{
+    return (unsigned)((key * UINT64_C(0x9E3779B97F4A7C15)) >> 56);
+}
+
+static void fill_dictionary(void)
+{
+    for (int w = W_VADD; w < WORD_COUNT; w++) {
+        Key key = 0;
+        for (unsigned i = 0; spelling[w][i] != '\0'; i++)
+            key |= (Key)(Byte)spelling[w][i] << (8 * i);
+        unsigned slot = dictionary_slot(key);
+        while (dictionary[slot].key != 0)
+            slot = (slot + 1) % DICTIONARY_SIZE;
+        dictionary[slot].key = key;
+        dictionary[slot].word = (Word)w;
+    }
+}
+
+static Word word_of(Key key)
+{
+    unsigned slot = dictionary_slot(key);
+    while (dictionary[slot].key != 0) {
+        if (dictionary[slot].key == key)
+            return dictionary[slot].word;
+        slot = (slot + 1) % DICTIONARY_SIZE;
+    }
+    return W_OTHER;
+}
+
+/* ------------------------------------------------------------------------
+ * The shape of a line.  Each reader takes the place where it starts and
+ * returns the place behind what it read, or NULL.  A line is always followed
+ * by a line feed in memory.  No reader steps over a line feed, so none runs
+ * past the line.
+ * ------------------------------------------------------------------------ */
+
+typedef enum { FILE_R, FILE_RD, FILE_P, SINK } File;
+
+typedef struct {
+    File file;          /* SINK for `_` */
+    unsigned number;
+} Place;
+
+typedef struct {
+    const Byte *at;
+    size_t length;
+} Text;
+
+typedef enum { PLAIN, NEGATED, PAIR } Form;
+
+typedef struct {
+    Form form;
+    Place first;
+    Place second;       /* of a pair */
+    Key selector;       /* 0 if none */
+    size_t bare;        /* length of the text without the selector */
+    Text text;
+} Operand;
+
+enum { NAMES_KEPT = 7, OPERANDS_KEPT = 4 };
+
+typedef struct {
+    bool guarded;
+    bool guard_negated;
+    Place guard;
+    Text guard_text;
+    Text head;
+    unsigned names;                 /* all of them, kept or not */
+    Word name[NAMES_KEPT + 1];      /* the first ones, then W_NONE */
+    unsigned operands;              /* all of them, kept or not */
+    Operand operand[OPERANDS_KEPT];
+} Line;
+
+static bool is_blank(Byte b) { return b == ' ' || b == '\t'; }
+static bool is_digit(Byte b) { return b >= '0' && b <= '9'; }
+
+static bool is_name_byte(Byte b)
+{
+    return (b >= 'a' && b <= 'z') || is_digit(b);
+}
+
+static const Byte *skip_blanks(const Byte *p)
+{
+    while (is_blank(*p))
+        p++;
+    return p;
+}
+
+static const Byte *read_name(const Byte *p, Key *key)
+{
+    Key k = 0;
+    unsigned length = 0;
+    for (; is_name_byte(*p); p++, length++)
+        if (length < 8)
+            k |= (Key)*p << (8 * length);
+    *key = length > 8 ? KEY_LONG : k;
+    return length > 0 ? p : NULL;
+}
+
+static const Byte *read_register(const Byte *p, Place *place)
+{
+    if (p[0] != '%')
+        return NULL;
+    if (p[1] == 'p') {
+        place->file = FILE_P;
+        p += 2;
+    } else if (p[1] == 'r' && p[2] == 'd') {
+        place->file = FILE_RD;
+        p += 3;
+    } else if (p[1] == 'r') {
+        place->file = FILE_R;
+        p += 2;
+    } else {
+        return NULL;
+    }
+    if (!is_digit(*p))
+        return NULL;
+    unsigned number = (unsigned)(*p++ - '0');
+    if (number != 0)
+        for (int more = 2; more > 0 && is_digit(*p); more--)
+            number = number * 10 + (unsigned)(*p++ - '0');
+    place->number = number;
+    return is_digit(*p) ? NULL : p;
+}
+
+static const Byte *read_place(const Byte *p, Place *place)
+{
+    if (*p != '_')
+        return read_register(p, place);
+    place->file = SINK;
+    place->number = 0;
+    return p + 1;
+}
+
+static const Byte *read_operand(const Byte *p, Operand *o)
+{
+    const Byte *start = p;
+    o->form = PLAIN;
+    o->selector = 0;
+    if (*p == '!') {
+        o->form = NEGATED;
+        p = read_register(p + 1, &o->first);
+        if (p == NULL)
+            return NULL;
+        o->bare = (size_t)(p - start);
+    } else {
+        p = read_place(p, &o->first);
+        if (p == NULL)
+            return NULL;
+        o->bare = (size_t)(p - start);
+        if (*p == '|') {
+            o->form = PAIR;
+            p = read_place(p + 1, &o->second);
+        } else if (o->first.file == SINK) {
+            return NULL;
+        } else if (*p == '.') {
+            p = read_name(p + 1, &o->selector);
+        }
+        if (p == NULL)
+            return NULL;
+    }
+    o->text.at = start;
+    o->text.length = (size_t)(p - start);
+    return p;
+}
+
+static const Byte *read_guard(const Byte *p, Line *line)
+{
+    const Byte *start = p;
+    line->guarded = true;
+    p++;
+    line->guard_negated = *p == '!';
+    if (line->guard_negated)
+        p++;
+    p = read_register(p, &line->guard);
+    if (p == NULL || !is_blank(*p))
+        return NULL;
+    line->guard_text.at = start;
+    line->guard_text.length = (size_t)(p - start);
+    return skip_blanks(p);
+}
+
+static const Byte *read_head(const Byte *p, Line *line)
+{
+    const Byte *start = p;
+    line->names = 0;
+    for (;;) {
+        Key key;
+        p = read_name(p, &key);
+        if (p == NULL)
+            return NULL;
+        if (line->names < NAMES_KEPT)
+            line->name[line->names] = word_of(key);
+        line->names++;
+        if (*p != '.')
+            break;
+        p++;
+    }
+    line->name[line->names < NAMES_KEPT ? line->names : NAMES_KEPT] = W_NONE;
+    line->head.at = start;
+    line->head.length = (size_t)(p - start);
+    return is_blank(*p) ? skip_blanks(p) : NULL;
+}
+
+static const Byte *read_operands(const Byte *p, Line *line)
+{
+    line->operands = 0;
+    for (;;) {
+        Operand spare;
+        bool kept = line->operands < OPERANDS_KEPT;
+        p = read_operand(p, kept ? &line->operand[line->operands] : &spare);
+        if (p == NULL)
+            return NULL;
+        line->operands++;
+        p = skip_blanks(p);
+        if (*p != ',')
+            return p;
+        p = skip_blanks(p + 1);
+    }
+}
+
+static bool read_shape(const Byte *p, Line *line)
+{
+    line->guarded = false;
+    p = skip_blanks(p);
+    if (*p == '@') {
+        p = read_guard(p, line);
+        if (p == NULL)
+            return false;
+    }
+    p = read_head(p, line);
+    if (p == NULL)
+        return false;
+    p = read_operands(p, line);
+    if (p == NULL || *p != ';')
+        return false;
+    return *skip_blanks(p + 1) == '\n';
+}
+
+/* ------------------------------------------------------------------------
+ * Records
+ * ------------------------------------------------------------------------ */
+
+typedef struct {
+    unsigned shift;
+    unsigned width;
+} Part;
+
+static const Part whole_word = { 0, 32 };
+
+enum { DROPPED = P_COUNT };     /* in p and q: the place is `_` or absent */
+
+typedef struct {
+    bool guarded;
+    bool guard_negated;
+    unsigned guard;
+    Word op;
+    Word dtype, atype, btype;   /* set, setp: stype is atype; slct: c is btype */
+    Word cmp;
+    Word second;                /* OP2 or BoolOp, or W_NONE */
+    bool sat;
+    bool ftz;
+    unsigned d, a, b, c;        /* register numbers */
+    unsigned p, q;              /* setp: the two places */
+    bool c_negated;
+    Part dpart, apart, bpart;   /* scalar video */
+    unsigned mask;              /* vset2, vset4: bit i for lane i */
+    unsigned asel[4], bsel[4];  /* part number of each lane, lane 0 first */
+} Record;
+
+static bool read_modifiers(const Line *line, Record *rec)
+{
+    const Word *m = line->name + 1;
+    rec->second = W_NONE;
+    rec->sat = false;
+    rec->ftz = false;
+
+    switch (rec->op) {
+    case W_VADD: case W_VSUB: case W_VABSDIFF: case W_VMIN: case W_VMAX:
+        if (!is_video_type(m[0]) || !is_video_type(m[1]) || !is_video_type(m[2]))
+            return false;
+        rec->dtype = m[0];
+        rec->atype = m[1];
+        rec->btype = m[2];
+        m += 3;
+        if (*m == W_SAT) {
+            rec->sat = true;
+            m++;
+        }
+        if (is_op2(*m))
+            rec->second = *m++;
+        break;
+
+    case W_VSET: case W_VSET2: case W_VSET4:
+        if (!is_video_type(m[0]) || !is_video_type(m[1]) || !is_cmp6(m[2]))
+            return false;
+        rec->dtype = W_U32;
+        rec->atype = m[0];
+        rec->btype = m[1];
+        rec->cmp = m[2];
+        m += 3;
+        if (rec->op == W_VSET ? is_op2(*m) : *m == W_ADD)
+            rec->second = *m++;
+        break;
+
+    case W_SET: case W_SETP:
+        if (*m == W_NONE)
+            return false;
+        rec->cmp = *m++;
+        if (is_bool_op(*m))
+            rec->second = *m++;
+        if (*m == W_FTZ) {
+            rec->ftz = true;
+            m++;
+        }
+        if (rec->op == W_SET) {
+            if (!is_set_dtype(*m))
+                return false;
+            rec->dtype = *m++;
+        }
+        rec->atype = *m;
+        if (!is_type(*m++) || !compares(rec->cmp, rec->atype))
+            return false;
+        if (rec->ftz && rec->atype != W_F32)
+            return false;
+        break;
+
+    case W_SELP:
+        if (!is_type(*m))
+            return false;
+        rec->dtype = *m++;
+        break;
+
+    case W_SLCT:
+        if (*m == W_FTZ) {
+            rec->ftz = true;
+            m++;
+        }
+        if (!is_type(m[0]) || !(m[1] == W_F32 || (m[1] == W_S32 && !rec->ftz)))
+            return false;
+        rec->dtype = m[0];
+        rec->btype = m[1];
+        m += 2;
+        break;
+
+    default:
+        return false;
+    }
+    return (size_t)(m - line->name) == line->names;
+}
+
+/* One register of the file, with no `!`, pair or selector. */
+static bool is_bare(const Operand *o, File file)
+{
+    return o->form == PLAIN && o->first.file == file && o->selector == 0;
+}
+
+/* One %r, with or without a selector. */
+static bool is_word(const Operand *o)
+{
+    return o->form == PLAIN && o->first.file == FILE_R;
+}
+
+/* A selector of scalar video: b0 to b3, h0, h1, or none. */
+static bool read_part(Key key, Part *part)
+{
+    if (key == 0) {
+        *part = whole_word;
+        return true;
+    }
+    Byte letter = (Byte)(key & 0xFF);
+    uint64_t digit = (key >> 8) - '0';      /* wraps to a large number below '0' */
+    if (letter == 'b' && digit < 4)
+        part->width = 8;
+    else if (letter == 'h' && digit < 2)
+        part->width = 16;
+    else
+        return false;
+    part->shift = part->width * (unsigned)digit;
+    return true;
+}
+
+/* A selector of vset2 or vset4; `first` is the default part of lane 0. */
+static bool read_lane_selector(Operand *o, unsigned lanes, unsigned first, unsigned sel[4])
+{
+    bool is_default = true;
+    if (o->selector == 0) {
+        for (unsigned i = 0; i < lanes; i++)
+            sel[i] = first + i;
+        return true;
+    }
+    Key key = o->selector;
+    if ((key & 0xFF) != (lanes == 2 ? 'h' : 'b'))
+        return false;
+    key >>= 8;
+    for (unsigned i = lanes; i-- > 0; key >>= 8) {
+        unsigned digit = (unsigned)(key & 0xFF) - '0';
+        if (digit >= 2 * lanes)
+            return false;
+        sel[i] = digit;
+        if (digit != first + i)
+            is_default = false;
+    }
+    if (key != 0)
+        return false;
+    if (is_default)
+        o->text.length = o->bare;
+    return true;
+}
+
+/* A mask of vset2 or vset4: the letter, then strictly falling digits. */
+static bool read_mask(Operand *o, unsigned lanes, unsigned *mask)
+{
+    unsigned full = (1u << lanes) - 1;
+    if (o->selector == 0) {
+        *mask = full;
+        return true;
+    }
+    Key key = o->selector;
+    if ((key & 0xFF) != (lanes == 2 ? 'h' : 'b'))
+        return false;
+    key >>= 8;
+    if (key == 0)
+        return false;
+    unsigned bits = 0;
+    for (unsigned above = lanes; key != 0; key >>= 8) {
+        unsigned digit = (unsigned)(key & 0xFF) - '0';
+        if (digit >= above)
+            return false;
+        bits |= 1u << digit;
+        above = digit;
+    }
+    *mask = bits;
+    if (bits == full)
+        o->text.length = o->bare;
+    return true;
+}
+
+/* d of setp: one predicate, or a pair of which one may be `_`. */
+static bool read_setp_places(const Operand *o, Record *rec)
+{
+    File first = o->first.file;
+    if (o->form != PAIR) {
+        rec->p = o->first.number;
+        rec->q = DROPPED;
+        return is_bare(o, FILE_P);
+    }
+    File second = o->second.file;
+    rec->p = first == SINK ? DROPPED : o->first.number;
+    rec->q = second == SINK ? DROPPED : o->second.number;
+    return (first == FILE_P && (second == FILE_P || second == SINK)) ||
+           (first == SINK && second == FILE_P);
+}
+
+/* The last operand of set and setp, there exactly when BoolOp is. */
+static bool read_bool_operand(const Line *line, Record *rec)
+{
+    if (rec->second == W_NONE)
+        return line->operands == 3;
+    if (line->operands != 4)
+        return false;
+    const Operand *c = &line->operand[3];
+    rec->c_negated = c->form == NEGATED;
+    return c->form != PAIR && c->first.file == FILE_P && c->selector == 0;
+}
+
+static bool read_record_operands(Line *line, Record *rec)
+{
+    if (line->operands < 3 || line->operands > 4)
+        return false;
+    Operand *d = &line->operand[0];
+    Operand *a = &line->operand[1];
+    Operand *b = &line->operand[2];
+    Operand *c = line->operands == 4 ? &line->operand[3] : NULL;
+    File file;
+
+    rec->d = d->first.number;
+    rec->a = a->first.number;
+    rec->b = b->first.number;
+    rec->c = c != NULL ? c->first.number : 0;
+    rec->c_negated = false;
+
+    switch (rec->op) {
+    case W_VADD: case W_VSUB: case W_VABSDIFF: case W_VMIN: case W_VMAX: case W_VSET:
+        if (!is_word(d) || !is_word(a) || !is_word(b))
+            return false;
+        if (c != NULL && !is_bare(c, FILE_R))
+            return false;
+        if (!read_part(d->selector, &rec->dpart) ||
+            !read_part(a->selector, &rec->apart) ||
+            !read_part(b->selector, &rec->bpart))
+            return false;
+        if (rec->second != W_NONE)
+            return c != NULL && d->selector == 0;
+        return (c != NULL) == (d->selector != 0);
+
+    case W_VSET2: case W_VSET4: {
+        unsigned lanes = rec->op == W_VSET2 ? 2 : 4;
+        return c != NULL && is_word(d) && is_word(a) && is_word(b) &&
+               is_bare(c, FILE_R) &&
+               read_mask(d, lanes, &rec->mask) &&
+               read_lane_selector(a, lanes, 0, rec->asel) &&
+               read_lane_selector(b, lanes, lanes, rec->bsel);
+    }
+
+    case W_SET: case W_SETP:
+        file = is_wide(rec->atype) ? FILE_RD : FILE_R;
+        if (!is_bare(a, file) || !is_bare(b, file) || !read_bool_operand(line, rec))
+            return false;
+        return rec->op == W_SET ? is_bare(d, FILE_R) : read_setp_places(d, rec);
+
+    case W_SELP: case W_SLCT:
+        file = is_wide(rec->dtype) ? FILE_RD : FILE_R;
+        return c != NULL && is_bare(d, file) && is_bare(a, file) && is_bare(b, file) &&
+               is_bare(c, rec->op == W_SELP ? FILE_P : FILE_R);
+
+    default:
+        return false;
+    }
+}
+
+static bool number_fits(Place place)
+{
+    switch (place.file) {
+    case FILE_R:  return place.number < R_COUNT;
+    case FILE_RD: return place.number < RD_COUNT;
+    case FILE_P:  return place.number < P_COUNT;
+    default:      return true;
+    }
+}
+
+static bool numbers_fit(const Line *line)
+{
+    if (line->guarded && !number_fits(line->guard))
+        return false;
+    for (unsigned i = 0; i < line->operands; i++) {
+        const Operand *o = &line->operand[i];
+        if (!number_fits(o->first) || (o->form == PAIR && !number_fits(o->second)))
+            return false;
+    }
+    return true;
+}
+
+/*
+ * Reads the line of `length` bytes at `p`.  When it is accepted, `line`
+ * holds its texts, without default masks and selectors, and `rec` the record.
+ */
+static Refusal read_line(const Byte *p, size_t length, Line *line, Record *rec)
+{
+    if (length > LINE_MOST)
+        return TOO_LONG;
+    if (!read_shape(p, line))
+        return NO_SHAPE;
+    rec->op = line->name[0];
+    if (!is_opcode(rec->op))
+        return NO_OPCODE;
+    if (!read_modifiers(line, rec))
+        return BAD_MODIFIERS;
+    if (line->guarded && line->guard.file != FILE_P)
+        return BAD_OPERANDS;
+    if (!read_record_operands(line, rec))
+        return BAD_OPERANDS;
+    if (!numbers_fit(line))
+        return BAD_NUMBER;
+    if (rec->op == W_SETP && rec->q != DROPPED && rec->p == rec->q)
+        return SAME_PLACES;
+    rec->guarded = line->guarded;
+    if (line->guarded) {
+        rec->guard = line->guard.number;
+        rec->guard_negated = line->guard_negated;
+    }
+    return ACCEPTED;
+}
+
+/* ------------------------------------------------------------------------
+ * Execution
+ * ------------------------------------------------------------------------ */
+
+typedef struct {
+    uint32_t r[R_COUNT];
+    uint64_t rd[RD_COUNT];
+    Byte p[P_COUNT];
+} Machine;
+
+static uint32_t start_r(unsigned n) { return n * UINT32_C(0x01010101); }
+static uint64_t start_rd(unsigned n) { return n; }
+
+/* How two values stand to each other; each comparison is the set it accepts. */
+enum { LESS = 1, EQUAL = 2, GREATER = 4, UNORDERED = 8 };
+
+static const Byte accepts[WORD_COUNT] = {
+    [W_EQ] = EQUAL,
+    [W_NE] = LESS | GREATER,
+    [W_LT] = LESS,             [W_LO] = LESS,
+    [W_LE] = LESS | EQUAL,     [W_LS] = LESS | EQUAL,
+    [W_GT] = GREATER,          [W_HI] = GREATER,
+    [W_GE] = GREATER | EQUAL,  [W_HS] = GREATER | EQUAL,
+    [W_EQU] = UNORDERED | EQUAL,
+    [W_NEU] = UNORDERED | LESS | GREATER,
+    [W_LTU] = UNORDERED | LESS,
+    [W_LEU] = UNORDERED | LESS | EQUAL,
+    [W_GTU] = UNORDERED | GREATER,
+    [W_GEU] = UNORDERED | GREATER | EQUAL,
+    [W_NUM] = LESS | EQUAL | GREATER,
+    [W_NAN] = UNORDERED
+};
+
+static unsigned order_signed(int64_t x, int64_t y)
+{
+    return x < y ? LESS : x > y ? GREATER : EQUAL;
+}
+
+static unsigned order_unsigned(uint64_t x, uint64_t y)
+{
+    return x < y ? LESS : x > y ? GREATER : EQUAL;
+}
+
+/* IEEE 754 order over the bits: sign and magnitude, zeros equal. */
+static unsigned order_float(uint64_t x, uint64_t y, uint64_t sign, uint64_t infinity)
+{
+    uint64_t x_size = x & (sign - 1);
+    uint64_t y_size = y & (sign - 1);
+    if (x_size > infinity || y_size > infinity)
+        return UNORDERED;
+    int64_t x_key = (x & sign) != 0 ? -(int64_t)x_size : (int64_t)x_size;
+    int64_t y_key = (y & sign) != 0 ? -(int64_t)y_size : (int64_t)y_size;
+    return order_signed(x_key, y_key);
+}
+
+static uint32_t flush(uint32_t x)
+{
+    return (x & UINT32_C(0x7F800000)) == 0 ? x & UINT32_C(0x80000000) : x;
+}
+
+/* The low `width` bits of x (8, 16 or 32; none above) as an exact number. */
+static int64_t number_of(uint32_t x, unsigned width, Word type)
+{
+    int64_t sign = INT64_C(1) << (width - 1);
+    int64_t n = x;
+    return type == W_S32 && n >= sign ? n - 2 * sign : n;
+}
+
+static uint32_t low_bits(unsigned width)
+{
+    return UINT32_MAX >> (32 - width);
+}
+
+static int64_t part_number(uint32_t word, Part part, Word type)
+{
+    return number_of((word >> part.shift) & low_bits(part.width), part.width, type);
+}
+
+static int64_t least(int64_t x, int64_t y) { return x < y ? x : y; }
+static int64_t greatest(int64_t x, int64_t y) { return x > y ? x : y; }
+
+static int64_t clamp(int64_t n, Word type, unsigned width)
+{
+    int64_t size = INT64_C(1) << width;
+    int64_t low = type == W_S32 ? -(size / 2) : 0;
+    return greatest(low, least(n, low + size - 1));
+}
+
+static uint32_t scalar_video(const Record *rec, uint32_t a, uint32_t b, uint32_t c)
+{
+    int64_t x = part_number(a, rec->apart, rec->atype);
+    int64_t y = part_number(b, rec->bpart, rec->btype);
+    int64_t n;
+
+    switch (rec->op) {
+    case W_VADD:     n = x + y; break;
+    case W_VSUB:     n = x - y; break;
+    case W_VABSDIFF: n = x < y ? y - x : x - y; break;
+    case W_VMIN:     n = least(x, y); break;
+    case W_VMAX:     n = greatest(x, y); break;
+    default:         n = (order_signed(x, y) & accepts[rec->cmp]) != 0; break;
+    }
+    if (rec->sat)
+        n = clamp(n, rec->dtype, rec->dpart.width);
+
+    int64_t c_number = number_of(c, 32, rec->dtype);
+    switch (rec->second) {
+    case W_ADD: n += c_number; break;
+    case W_MIN: n = least(n, c_number); break;
+    case W_MAX: n = greatest(n, c_number); break;
+    default: break;
+    }
+
+    uint32_t place = low_bits(rec->dpart.width) << rec->dpart.shift;
+    return (((uint32_t)n << rec->dpart.shift) & place) | (c & ~place);
+}
+
+static uint32_t simd_video(const Record *rec, uint32_t a, uint32_t b, uint32_t c)
+{
+    unsigned lanes = rec->op == W_VSET2 ? 2 : 4;
+    unsigned width = 32 / lanes;
+    uint64_t parts = (uint64_t)b << 32 | a;
+    uint32_t merged = 0;
+    uint32_t count = 0;
+
+    for (unsigned i = 0; i < lanes; i++) {
+        uint32_t lane = low_bits(width) << (width * i);
+        if ((rec->mask >> i & 1) == 0) {
+            merged |= c & lane;
+            continue;
+        }
+        uint32_t x = (uint32_t)(parts >> (width * rec->asel[i])) & low_bits(width);
+        uint32_t y = (uint32_t)(parts >> (width * rec->bsel[i])) & low_bits(width);
+        unsigned order = order_signed(number_of(x, width, rec->atype),
+                                      number_of(y, width, rec->btype));
+        if ((order & accepts[rec->cmp]) != 0) {
+            merged |= UINT32_C(1) << (width * i);
+            count++;
+        }
+    }
+    return rec->second == W_ADD ? c + count : merged;
+}
+
+/* t of set and setp. */
+static bool comparison(const Machine *m, const Record *rec)
+{
+    const uint64_t sign64 = UINT64_C(1) << 63;
+    unsigned order;
+
+    if (is_wide(rec->atype)) {
+        uint64_t x = m->rd[rec->a];
+        uint64_t y = m->rd[rec->b];
+        if (rec->atype == W_F64)
+            order = order_float(x, y, sign64, UINT64_C(0x7FF0000000000000));
+        else if (rec->atype == W_S64)
+            order = order_unsigned(x ^ sign64, y ^ sign64);
+        else
+            order = order_unsigned(x, y);
+    } else {
+        uint32_t x = m->r[rec->a];
+        uint32_t y = m->r[rec->b];
+        if (rec->ftz) {
+            x = flush(x);
+            y = flush(y);
+        }
+        if (rec->atype == W_F32)
+            order = order_float(x, y, UINT64_C(0x80000000), UINT64_C(0x7F800000));
+        else
+            order = order_signed(number_of(x, 32, rec->atype),
+                                 number_of(y, 32, rec->atype));
+    }
+    return (order & accepts[rec->cmp]) != 0;
+}
+
+static bool bool_op(Word op, bool t, bool c)
+{
+    switch (op) {
+    case W_AND: return t && c;
+    case W_OR:  return t || c;
+    case W_XOR: return t != c;
+    default:    return t;
+    }
+}
+
+/* slct: c is at or above zero. */
+static bool at_or_above_zero(uint32_t c, Word type)
+{
+    uint32_t size = c & UINT32_C(0x7FFFFFFF);
+    bool negative = size != c;
+    if (type == W_S32)
+        return !negative;
+    return size <= UINT32_C(0x7F800000) && (!negative || size == 0);
+}
+
+/* Executes the record; false if its guard skips it. */
+static bool execute(Machine *m, const Record *rec)
+{
+    if (rec->guarded && (m->p[rec->guard] != 0) == rec->guard_negated)
+        return false;
+
+    switch (rec->op) {
+    case W_VADD: case W_VSUB: case W_VABSDIFF: case W_VMIN: case W_VMAX: case W_VSET:
+        m->r[rec->d] = scalar_video(rec, m->r[rec->a], m->r[rec->b], m->r[rec->c]);
+        break;
+
+    case W_VSET2: case W_VSET4:
+        m->r[rec->d] = simd_video(rec, m->r[rec->a], m->r[rec->b], m->r[rec->c]);
+        break;
+
+    case W_SET: case W_SETP: {
+        bool t = comparison(m, rec);
+        bool c = rec->second != W_NONE && (m->p[rec->c] != 0) != rec->c_negated;
+        bool first = bool_op(rec->second, t, c);
+        bool second = bool_op(rec->second, !t, c);
+        if (rec->op == W_SET) {
+            uint32_t truth = rec->dtype == W_F32 ? UINT32_C(0x3F800000) : UINT32_MAX;
+            m->r[rec->d] = first ? truth : 0;
+        } else {
+            if (rec->p != DROPPED)
+                m->p[rec->p] = first;
+            if (rec->q != DROPPED)
+                m->p[rec->q] = second;
+        }
+        break;
+    }
+
+    default: {      /* selp, slct */
+        bool pick_a = rec->op == W_SELP ? m->p[rec->c] == 1
+                                        : at_or_above_zero(m->r[rec->c], rec->btype);
+        unsigned from = pick_a ? rec->a : rec->b;
+        if (is_wide(rec->dtype))
+            m->rd[rec->d] = m->rd[from];
+        else
+            m->r[rec->d] = m->r[from];
+        break;
+    }
+    }
+    return true;
+}
+
+/* ------------------------------------------------------------------------
+ * Answers, collected in one buffer
+ * ------------------------------------------------------------------------ */
+
+enum { OUTPUT_SIZE = 65536, OUTPUT_LINE_MOST = 256 };
+
+static Byte output[OUTPUT_SIZE];
+static size_t output_length;
+
+static void flush_output(void)
+{
+    write_output(output, output_length);
+    output_length = 0;
+}
+
+/* Makes room for one line of answer. */
+static void begin_line(void)
+{
+    if (output_length > OUTPUT_SIZE - OUTPUT_LINE_MOST)
+        flush_output();
+}
+
+static void put_byte(Byte b)
+{
+    output[output_length++] = b;
+}
+
+static void put(const void *from, size_t length)
+{
+    memcpy(output + output_length, from, length);
+    output_length += length;
+}
+
+static void put_string(const char *s)
+{
+    put(s, strlen(s));
+}
+
+static void put_decimal(unsigned n)
+{
+    Byte digits[10];
+    unsigned at = sizeof digits;
+    do {
+        digits[--at] = (Byte)('0' + n % 10);
+        n /= 10;
+    } while (n != 0);
+    put(digits + at, sizeof digits - at);
+}
+
+static void put_hex(uint64_t n, unsigned digits)
+{
+    while (digits-- > 0)
+        put_byte((Byte)"0123456789ABCDEF"[n >> (4 * digits) & 15]);
+}
+
+/*
+ * The standard line.  Guards, heads and operands have one spelling each,
+ * apart from default masks and selectors, which the reader has cut off; so
+ * the texts of the line itself are joined in the standard way.
+ */
+static void put_standard_line(const Line *line)
+{
+    if (line->guarded) {
+        put(line->guard_text.at, line->guard_text.length);
+        put_byte(' ');
+    }
+    put(line->head.at, line->head.length);
+    for (unsigned i = 0; i < line->operands; i++) {
+        if (i > 0)
+            put_byte(',');
+        put_byte(' ');
+        put(line->operand[i].text.at, line->operand[i].text.length);
+    }
+    put_byte(';');
+}
+
+static void put_register(const char *file, unsigned number)
+{
+    begin_line();
+    put_string(file);
+    put_decimal(number);
+    put_byte(' ');
+}
+
+static void put_changed_registers(const Machine *m)
+{
+    for (unsigned n = 0; n < R_COUNT; n++)
+        if (m->r[n] != start_r(n)) {
+            put_register("%r", n);
+            put_hex(m->r[n], 8);
+            put_byte('\n');
+        }
+    for (unsigned n = 0; n < RD_COUNT; n++)
+        if (m->rd[n] != start_rd(n)) {
+            put_register("%rd", n);
+            put_hex(m->rd[n], 16);
+            put_byte('\n');
+        }
+    for (unsigned n = 0; n < P_COUNT; n++)
+        if (m->p[n] != 0) {
+            put_register("%p", n);
+            put_decimal(m->p[n]);
+            put_byte('\n');
+        }
+}
+
+/* ------------------------------------------------------------------------
+ * The listing
+ * ------------------------------------------------------------------------ */
+
+static void run_listing(const Byte *p, const Byte *end, Machine *m)
+{
+    Line line;
+    Record rec;
+
+    for (unsigned number = 1; p < end; number++) {
+        const Byte *feed = memchr(p, '\n', (size_t)(end - p) + 1);
+        Refusal refusal = read_line(p, (size_t)(feed - p), &line, &rec);
+        begin_line();
+        put_decimal(number);
+        if (refusal != ACCEPTED) {
+            put_string(" refused ");
+            put_decimal(refusal);
+        } else {
+            put_string(execute(m, &rec) ? " done " : " skipped ");
+            put_standard_line(&line);
+        }
+        put_byte('\n');
+        p = feed + 1;
+    }
+}
+
+int main(void)
+{
+    static Byte input[INPUT_MOST + 1];
+    static Machine machine;
+
+    size_t length = read_input(input, sizeof input);
+    if (length > INPUT_MOST) {
+        put_string("input too long\n");
+        flush_output();
+        return 0;
+    }
+    input[length] = '\n';       /* ends a last line without its line feed */
+
+    fill_dictionary();
+    for (unsigned n = 0; n < R_COUNT; n++)
+        machine.r[n] = start_r(n);
+    for (unsigned n = 0; n < RD_COUNT; n++)
+        machine.rd[n] = start_rd(n);
+
+    run_listing(input, input + length, &machine);
+    put_changed_registers(&machine);
+    flush_output();
+    return 0;
+}

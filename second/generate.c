@@ -1,0 +1,899 @@
+/*
+ * generate SEED BYTES: prints a listing of at most BYTES bytes (at most
+ * 65,536) for the PTX line bench.  The same arguments give the same listing.
+ *
+ * About three quarters of the lines are legal.  The rest are near misses of
+ * legal lines.  "Kits" of legal lines bring special values (NaNs, infinities,
+ * subnormals, zeros, extremes) into registers, from any register state; these
+ * registers are then "hot": sources are often drawn from them, destinations
+ * seldom.
+ *
+ * Build:  cc -std=c11 -O2 -Wall -Wextra -Werror generate.c -o generate
+ */
+
+#include <stdarg.h>
+#include <stdbool.h>
+#include <stdint.h>
+#include <stdio.h>
+#include <stdlib.h>
+#include <string.h>
+
+typedef unsigned char Byte;
+
+/* ---- chance ---- */
+
+static uint64_t state;
+
+static uint64_t next(void)
+{
+    uint64_t z = state += UINT64_C(0x9E3779B97F4A7C15);
+    z = (z ^ (z >> 30)) * UINT64_C(0xBF58476D1CE4E5B9);
+    z = (z ^ (z >> 27)) * UINT64_C(0x94D049BB133111EB);
+    return z ^ (z >> 31);
+}
+
+static unsigned below(unsigned n) { return (unsigned)(next() >> 32) % n; }
+static bool percent(unsigned n) { return below(100) < n; }
+
+#define COUNT(a) (sizeof (a) / sizeof (a)[0])
+#define PICK(a) ((a)[below((unsigned)COUNT(a))])
+
+/* ---- the listing ---- */
+
+enum { LISTING_MOST = 65536 };
+
+static Byte listing[LISTING_MOST];
+static size_t used, limit;
+static bool full;
+
+/* Adds a line; when it no longer fits, the listing is full. */
+static void emit(const Byte *line, size_t length)
+{
+    if (full)
+        return;
+    if (length + 1 <= limit - used) {
+        memcpy(listing + used, line, length);
+        used += length;
+        listing[used++] = '\n';
+        return;
+    }
+    full = true;
+    if (percent(50)) {              /* the start of it, up to the limit */
+        size_t room = limit - used;
+        if (room > length)
+            room = length;
+        memcpy(listing + used, line, room);
+        used += room;
+    } else if (percent(40) && used > 0) {
+        used--;                     /* a last line without its line feed */
+    }
+}
+
+static void emit_format(const char *format, ...)
+{
+    char line[200];
+    va_list list;
+    va_start(list, format);
+    int length = vsnprintf(line, sizeof line, format, list);
+    va_end(list);
+    if (length > 0)
+        emit((const Byte *)line, (size_t)length);
+}
+
+/* ---- registers ---- */
+
+static unsigned hot[64];
+static unsigned hot_count;
+static unsigned last_source;
+
+static bool is_hot(unsigned n)
+{
+    for (unsigned i = 0; i < hot_count; i++)
+        if (hot[i] == n)
+            return true;
+    return false;
+}
+
+static unsigned source_word(void)
+{
+    unsigned kind = below(100);
+    if (kind >= 10) {
+        if (kind < 55 && hot_count > 0)
+            last_source = hot[below(hot_count)];
+        else
+            last_source = below(64);
+    }
+    return last_source;
+}
+
+static unsigned destination_word(void)
+{
+    static const unsigned edges[] = { 0, 15, 16, 31, 32, 63 };
+    if (percent(4))
+        return PICK(edges);
+    for (int tries = 0; tries < 8; tries++) {
+        unsigned n = below(64);
+        if (!is_hot(n))
+            return n;
+    }
+    return below(64);
+}
+
+static unsigned double_word(void)
+{
+    static const unsigned edges[] = { 0, 15, 16, 31 };
+    return percent(15) ? PICK(edges) : below(32);
+}
+
+/* Doubles are only copied, so most of them keep their start value. */
+static unsigned destination_double(void)
+{
+    return percent(90) ? 24 + below(8) : double_word();
+}
+
+static unsigned predicate(void)
+{
+    return percent(60) ? below(4) : percent(20) ? 15 : below(16);
+}
+
+/* ---- kits: special values from any register state ---- */
+
+static void emit_kit(void)
+{
+    enum {
+        ZERO, ONES, ONE, F_ONE, S_MAX, S_MIN, INF, N_INF, QNAN, N_QNAN, SNAN, N_SNAN,
+        SNAN_MAX, F_MAX, NF_MAX, NORMAL, N_NORMAL, SUB_MAX, N_SUB_MAX, N_SUB_MIN,
+        NF_ONE, H_MAX, H_MIN, B_MAX, B_MIN, S_MIN_1, KIT
+    };
+    unsigned r[64];
+    for (unsigned i = 0; i < 64; i++)
+        r[i] = i;
+    for (unsigned i = 63; i > 0; i--) {
+        unsigned j = below(i + 1), t = r[i];
+        r[i] = r[j];
+        r[j] = t;
+    }
+    memcpy(hot, r, sizeof r);
+    hot_count = KIT;
+
+    unsigned x = below(64);
+    emit_format("set.ne.u32.u32 %%r%u, %%r%u, %%r%u;", r[ZERO], x, x);
+    emit_format("set.eq.s32.b32 %%r%u, %%r%u, %%r%u;", r[ONES], x, x);
+    emit_format("vset.u32.s32.eq %%r%u, %%r%u.b2, %%r%u.b2;", r[ONE], r[ZERO], r[ZERO]);
+    emit_format("set.eq.f32.s32 %%r%u, %%r%u, %%r%u;", r[F_ONE], x, x);
+    emit_format("vadd.s32.u32.u32.sat %%r%u, %%r%u, %%r%u;", r[S_MAX], r[ONES], r[ONES]);
+    emit_format("vsub.s32.u32.u32.sat %%r%u, %%r%u, %%r%u;", r[S_MIN], r[ZERO], r[ONES]);
+    emit_format("vadd.u32.u32.u32 %%r%u.b3, %%r%u.b3, %%r%u, %%r%u;", r[INF], r[S_MAX], r[ZERO], r[ZERO]);
+    emit_format("vadd.u32.u32.u32 %%r%u.b2, %%r%u.b3, %%r%u, %%r%u;", r[INF], r[S_MIN], r[ZERO], r[INF]);
+    emit_format("vmax.u32.u32.u32 %%r%u.b3, %%r%u.b0, %%r%u, %%r%u;", r[N_INF], r[ONES], r[ZERO], r[INF]);
+    emit_format("vsub.u32.u32.u32 %%r%u.b2, %%r%u.b0, %%r%u.b3, %%r%u;", r[QNAN], r[ONES], r[F_ONE], r[INF]);
+    emit_format("vmin.u32.u32.u32 %%r%u.b3, %%r%u.b1, %%r%u.b2, %%r%u;", r[N_QNAN], r[ONES], r[ONES], r[QNAN]);
+    emit_format("vadd.u32.u32.u32 %%r%u, %%r%u, %%r%u;", r[SNAN], r[INF], r[ONE]);
+    emit_format("vadd.s32.u32.s32 %%r%u, %%r%u, %%r%u;", r[N_SNAN], r[N_INF], r[ONE]);
+    emit_format("vsub.u32.u32.u32 %%r%u, %%r%u, %%r%u;", r[SNAN_MAX], r[QNAN], r[ONE]);
+    emit_format("vsub.u32.u32.u32 %%r%u, %%r%u, %%r%u;", r[F_MAX], r[INF], r[ONE]);
+    emit_format("vsub.u32.s32.u32 %%r%u, %%r%u, %%r%u;", r[NF_MAX], r[N_INF], r[ONE]);
+    emit_format("vadd.u32.u32.u32 %%r%u.b2, %%r%u.b3, %%r%u, %%r%u;", r[NORMAL], r[S_MIN], r[ZERO], r[ZERO]);
+    emit_format("vadd.u32.u32.u32 %%r%u, %%r%u, %%r%u;", r[N_NORMAL], r[NORMAL], r[S_MIN]);
+    emit_format("vsub.u32.u32.u32 %%r%u, %%r%u, %%r%u;", r[SUB_MAX], r[NORMAL], r[ONE]);
+    emit_format("vadd.s32.s32.s32 %%r%u, %%r%u, %%r%u;", r[N_SUB_MAX], r[SUB_MAX], r[S_MIN]);
+    emit_format("vadd.u32.u32.u32 %%r%u, %%r%u, %%r%u;", r[N_SUB_MIN], r[S_MIN], r[ONE]);
+    emit_format("vadd.s32.s32.s32 %%r%u, %%r%u, %%r%u;", r[NF_ONE], r[F_ONE], r[S_MIN]);
+    emit_format("vadd.s32.u32.u32.sat %%r%u.h0, %%r%u, %%r%u, %%r%u;", r[H_MAX], r[ONES], r[ONES], r[ZERO]);
+    emit_format("vsub.s32.u32.u32.sat %%r%u.h0, %%r%u, %%r%u, %%r%u;", r[H_MIN], r[ZERO], r[ONES], r[S_MAX]);
+    emit_format("vadd.s32.u32.u32.sat %%r%u.b0, %%r%u, %%r%u, %%r%u;", r[B_MAX], r[ONES], r[ONES], r[S_MIN]);
+    emit_format("vsub.s32.u32.u32.sat %%r%u.b1, %%r%u, %%r%u, %%r%u;", r[B_MIN], r[ZERO], r[ONES], r[ONES]);
+    emit_format("vsub.s32.s32.s32 %%r%u, %%r%u, %%r%u;", r[S_MIN_1], r[ONES], r[ONE]);
+}
+
+/* Predicates of both values. */
+static void emit_predicates(void)
+{
+    unsigned n = below(64), p = predicate(), q = predicate();
+    emit_format("setp.eq.u32 %%p%u, %%r%u, %%r%u;", p, n, n);
+    if (p != q)
+        emit_format("setp.ne.b32 %%p%u, %%r%u, %%r%u;", q, n, n);
+}
+
+/* ---- drafts of lines ---- */
+
+enum { NAMES_MOST = 12, OPERANDS_MOST = 8, TEXT_MOST = 40 };
+
+typedef struct {
+    char guard[TEXT_MOST];              /* empty if none */
+    char name[NAMES_MOST][TEXT_MOST];
+    unsigned names;
+    char operand[OPERANDS_MOST][TEXT_MOST];
+    unsigned operands;
+} Draft;
+
+static void add_name(Draft *d, const char *name)
+{
+    if (d->names < NAMES_MOST)
+        snprintf(d->name[d->names++], TEXT_MOST, "%s", name);
+}
+
+static void add_operand(Draft *d, const char *format, ...)
+{
+    if (d->operands == OPERANDS_MOST)
+        return;
+    va_list list;
+    va_start(list, format);
+    vsnprintf(d->operand[d->operands++], TEXT_MOST, format, list);
+    va_end(list);
+}
+
+static const char *const video_types[] = { "u32", "s32" };
+static const char *const types[] = { "b32", "b64", "u32", "u64", "s32", "s64", "f32", "f64" };
+static const char *const cmp6[] = { "eq", "ne", "lt", "le", "gt", "ge" };
+static const char *const cmp_unsigned[] = { "eq", "ne", "lt", "le", "gt", "ge", "lo", "ls", "hi", "hs" };
+static const char *const cmp_float[] = { "eq", "ne", "lt", "le", "gt", "ge", "equ", "neu", "ltu", "leu", "gtu", "geu", "num", "nan" };
+static const char *const op2[] = { "add", "min", "max" };
+static const char *const bool_op[] = { "and", "or", "xor" };
+static const char *const scalar_opcodes[] = { "vadd", "vsub", "vabsdiff", "vmin", "vmax" };
+static const char *const parts[] = { "b0", "b1", "b2", "b3", "h0", "h1" };
+
+static bool is_wide(const char *type) { return type[1] == '6'; }
+
+static void add_scalar_source(Draft *d)
+{
+    unsigned n = source_word();
+    if (percent(50))
+        add_operand(d, "%%r%u", n);
+    else
+        add_operand(d, "%%r%u.%s", n, PICK(parts));
+}
+
+/* Operands of scalar video, vset included. */
+static void add_scalar_operands(Draft *d, bool has_op2)
+{
+    bool merge = !has_op2 && percent(55);
+    if (merge)
+        add_operand(d, "%%r%u.%s", destination_word(), PICK(parts));
+    else
+        add_operand(d, "%%r%u", destination_word());
+    add_scalar_source(d);
+    add_scalar_source(d);
+    if (has_op2 || merge)
+        add_operand(d, "%%r%u", source_word());
+}
+
+static void draft_scalar(Draft *d)
+{
+    add_name(d, PICK(scalar_opcodes));
+    for (int i = 0; i < 3; i++)
+        add_name(d, PICK(video_types));
+    if (percent(50))
+        add_name(d, "sat");
+    bool has_op2 = percent(40);
+    if (has_op2)
+        add_name(d, PICK(op2));
+    add_scalar_operands(d, has_op2);
+}
+
+static void draft_vset(Draft *d)
+{
+    add_name(d, "vset");
+    add_name(d, PICK(video_types));
+    add_name(d, PICK(video_types));
+    add_name(d, PICK(cmp6));
+    bool has_op2 = percent(40);
+    if (has_op2)
+        add_name(d, PICK(op2));
+    add_scalar_operands(d, has_op2);
+}
+
+static void add_lane_source(Draft *d, unsigned lanes, const char *standard)
+{
+    unsigned n = source_word();
+    unsigned kind = below(100);
+    if (kind < 30)
+        add_operand(d, "%%r%u", n);
+    else if (kind < 45)
+        add_operand(d, "%%r%u.%s", n, standard);
+    else if (lanes == 2)
+        add_operand(d, "%%r%u.h%u%u", n, below(4), below(4));
+    else
+        add_operand(d, "%%r%u.b%u%u%u%u", n, below(8), below(8), below(8), below(8));
+}
+
+static void draft_lanes(Draft *d, unsigned lanes)
+{
+    add_name(d, lanes == 2 ? "vset2" : "vset4");
+    add_name(d, PICK(video_types));
+    add_name(d, PICK(video_types));
+    add_name(d, PICK(cmp6));
+    if (percent(40))
+        add_name(d, "add");
+    unsigned n = destination_word();
+    unsigned mask = 1 + below((1u << lanes) - 1);
+    if (percent(30)) {
+        add_operand(d, "%%r%u", n);
+    } else {
+        char name[8];
+        unsigned length = 0;
+        name[length++] = lanes == 2 ? 'h' : 'b';
+        for (unsigned i = lanes; i-- > 0;)
+            if (mask >> i & 1)
+                name[length++] = (char)('0' + i);
+        name[length] = '\0';
+        add_operand(d, "%%r%u.%s", n, percent(15) ? (lanes == 2 ? "h10" : "b3210") : name);
+    }
+    add_lane_source(d, lanes, lanes == 2 ? "h10" : "b3210");
+    add_lane_source(d, lanes, lanes == 2 ? "h32" : "b7654");
+    add_operand(d, "%%r%u", source_word());
+}
+
+static void add_typed_sources(Draft *d, const char *type)
+{
+    for (int i = 0; i < 2; i++) {
+        if (is_wide(type))
+            add_operand(d, "%%rd%u", double_word());
+        else
+            add_operand(d, "%%r%u", source_word());
+    }
+}
+
+static void draft_set(Draft *d, bool setp)
+{
+    const char *type = percent(40) ? "f32" : PICK(types);
+    add_name(d, setp ? "setp" : "set");
+    switch (type[0]) {
+    case 'b': add_name(d, cmp6[below(2)]); break;
+    case 's': add_name(d, PICK(cmp6)); break;
+    case 'u': add_name(d, PICK(cmp_unsigned)); break;
+    default:  add_name(d, PICK(cmp_float)); break;
+    }
+    bool has_bool_op = percent(50);
+    if (has_bool_op)
+        add_name(d, PICK(bool_op));
+    if (strcmp(type, "f32") == 0 && percent(45))
+        add_name(d, "ftz");
+    if (setp) {
+        unsigned kind = below(100), p = predicate(), q = predicate();
+        if (kind < 40) {
+            add_operand(d, "%%p%u", p);
+        } else if (kind < 75) {
+            if (p == q)
+                q = (q + 1) % 16;
+            add_operand(d, "%%p%u|%%p%u", p, q);
+        } else if (kind < 87) {
+            add_operand(d, "%%p%u|_", p);
+        } else {
+            add_operand(d, "_|%%p%u", p);
+        }
+    } else {
+        static const char *const dtypes[] = { "u32", "s32", "f32" };
+        add_name(d, PICK(dtypes));
+        add_operand(d, "%%r%u", destination_word());
+    }
+    add_name(d, type);
+    add_typed_sources(d, type);
+    if (has_bool_op)
+        add_operand(d, "%s%%p%u", percent(50) ? "!" : "", predicate());
+}
+
+static void add_typed_destination(Draft *d, const char *type)
+{
+    if (is_wide(type))
+        add_operand(d, "%%rd%u", destination_double());
+    else
+        add_operand(d, "%%r%u", destination_word());
+}
+
+static void draft_selp(Draft *d)
+{
+    const char *type = PICK(types);
+    add_name(d, "selp");
+    add_name(d, type);
+    add_typed_destination(d, type);
+    add_typed_sources(d, type);
+    add_operand(d, "%%p%u", predicate());
+}
+
+static void draft_slct(Draft *d)
+{
+    const char *type = PICK(types);
+    bool single = percent(60);
+    add_name(d, "slct");
+    if (single && percent(45))
+        add_name(d, "ftz");
+    add_name(d, type);
+    add_name(d, single ? "f32" : "s32");
+    add_typed_destination(d, type);
+    add_typed_sources(d, type);
+    add_operand(d, "%%r%u", source_word());
+}
+
+static void draft_good(Draft *d)
+{
+    memset(d, 0, sizeof *d);
+    if (percent(25))
+        snprintf(d->guard, TEXT_MOST, "@%s%%p%u", percent(50) ? "!" : "", predicate());
+    unsigned kind = below(100);
+    if (kind < 28)      draft_scalar(d);
+    else if (kind < 36) draft_vset(d);
+    else if (kind < 47) draft_lanes(d, 2);
+    else if (kind < 60) draft_lanes(d, 4);
+    else if (kind < 74) draft_set(d, false);
+    else if (kind < 88) draft_set(d, true);
+    else if (kind < 93) draft_selp(d);
+    else                draft_slct(d);
+}
+
+/* ---- drafts spoilt by tokens ---- */
+
+static const char *const any_names[] = {
+    "vadd", "vsub", "vabsdiff", "vmin", "vmax", "vset", "vset2", "vset4", "set", "setp",
+    "selp", "slct", "u32", "s32", "f32", "b32", "u64", "s64", "f64", "b64", "u16", "s16",
+    "b16", "f16", "u8", "eq", "ne", "lt", "le", "gt", "ge", "lo", "ls", "hi", "hs", "equ",
+    "neu", "ltu", "leu", "gtu", "geu", "num", "nan", "add", "min", "max", "and", "or",
+    "xor", "not", "sat", "ftz", "vmad", "vshl", "vadd4", "vset1", "vset3", "mov", "pred",
+    "a", "0", "u3", "u322", "eqx", "vabsdiff2", "vabsdiffs", "abcdefghijk", "b0", "h10"
+};
+
+static const char *const any_selectors[] = {
+    "b0", "b1", "b2", "b3", "b4", "h0", "h1", "h2", "h10", "h01", "h00", "h11", "h32",
+    "h23", "h44", "h210", "b3210", "b0123", "b7654", "b4567", "b8765", "b321", "b10",
+    "b01", "b33", "b3333", "b32100", "b76543", "b", "h", "w0", "x", "0", "b4321", "h33",
+    "b20", "b310", "b32a0", "b321076", "b32107654", "h3", "h100000000", "b00", "h1010"
+};
+
+static void any_register(char *to)
+{
+    static const char *const files[] = { "%r", "%rd", "%p" };
+    static const char *const edges[] = {
+        "0", "15", "16", "31", "32", "63", "64", "99", "100", "999", "1000", "00", "01",
+        "063", "0000", "9999", "65536", "4294967296", "", "7", "1"
+    };
+    if (percent(50))
+        snprintf(to, TEXT_MOST, "%s%s", PICK(files), PICK(edges));
+    else
+        snprintf(to, TEXT_MOST, "%s%u", PICK(files), below(16));
+}
+
+static void any_operand(char *to)
+{
+    char x[TEXT_MOST], y[TEXT_MOST], made[3 * TEXT_MOST];
+    any_register(x);
+    any_register(y);
+    switch (below(16)) {
+    case 0: case 1: case 2: snprintf(made, sizeof made, "%s", x); break;
+    case 3: case 4: snprintf(made, sizeof made, "!%s", x); break;
+    case 5: case 6: snprintf(made, sizeof made, "%s.%s", x, PICK(any_selectors)); break;
+    case 7: snprintf(made, sizeof made, "%s|%s", x, y); break;
+    case 8: snprintf(made, sizeof made, "%s|%s", x, x); break;
+    case 9: snprintf(made, sizeof made, "%s|_", x); break;
+    case 10: snprintf(made, sizeof made, "_|%s", x); break;
+    case 11: snprintf(made, sizeof made, "%s", percent(70) ? "_|_" : "_"); break;
+    case 12: snprintf(made, sizeof made, "%s|%s|%s", x, y, percent(50) ? "_" : x); break;
+    case 13: snprintf(made, sizeof made, "%s.%s|%s", x, PICK(any_selectors), y); break;
+    case 14: snprintf(made, sizeof made, "%u", below(100)); break;
+    default: snprintf(made, sizeof made, "!%s.%s", x, PICK(any_selectors)); break;
+    }
+    made[TEXT_MOST - 1] = '\0';
+    memcpy(to, made, TEXT_MOST);
+}
+
+static void swap_texts(char *x, char *y)
+{
+    char t[TEXT_MOST];
+    memcpy(t, x, TEXT_MOST);
+    memmove(x, y, TEXT_MOST);
+    memcpy(y, t, TEXT_MOST);
+}
+
+static void remove_text(char (*list)[TEXT_MOST], unsigned *count, unsigned at)
+{
+    for (unsigned i = at; i + 1 < *count; i++)
+        memcpy(list[i], list[i + 1], TEXT_MOST);
+    (*count)--;
+}
+
+static void insert_text(char (*list)[TEXT_MOST], unsigned *count, unsigned most,
+                        unsigned at, const char *text)
+{
+    if (*count == most)
+        return;
+    char copy[TEXT_MOST];
+    snprintf(copy, sizeof copy, "%s", text);
+    for (unsigned i = *count; i > at; i--)
+        memcpy(list[i], list[i - 1], TEXT_MOST);
+    memcpy(list[at], copy, TEXT_MOST);
+    (*count)++;
+}
+
+static void spoil_names(Draft *d)
+{
+    unsigned at = below(d->names);
+    unsigned modifier = d->names > 1 ? 1 + below(d->names - 1) : 0;
+    switch (below(9)) {
+    case 8: d->names = 1 + below(d->names); break;
+    case 0: swap_texts(d->name[modifier], d->name[d->names > 1 ? 1 + below(d->names - 1) : 0]); break;
+    case 1: if (d->names > 2) swap_texts(d->name[d->names - 1], d->name[d->names - 2]); break;
+    case 2: insert_text(d->name, &d->names, NAMES_MOST, modifier, d->name[modifier]); break;
+    case 3: remove_text(d->name, &d->names, modifier); break;
+    case 4: insert_text(d->name, &d->names, NAMES_MOST, below(d->names) + 1, PICK(any_names)); break;
+    case 5: snprintf(d->name[modifier], TEXT_MOST, "%s", PICK(any_names)); break;
+    case 6: snprintf(d->name[0], TEXT_MOST, "%s", PICK(any_names)); break;
+    default:
+        if (percent(60))        /* a modifier that stands in some table row */
+            insert_text(d->name, &d->names, NAMES_MOST, at + 1,
+                        percent(50) ? (percent(50) ? "sat" : "ftz") : percent(50) ? PICK(op2) : PICK(bool_op));
+        else
+            while (d->names < NAMES_MOST)
+                add_name(d, PICK(any_names));
+        break;
+    }
+    if (d->names == 0)
+        d->names = 1;
+}
+
+static void spoil_operands(Draft *d)
+{
+    unsigned at = below(d->operands);
+    char made[TEXT_MOST];
+    any_operand(made);
+    switch (below(12)) {
+    case 0: remove_text(d->operand, &d->operands, at); break;
+    case 1: insert_text(d->operand, &d->operands, OPERANDS_MOST, at, d->operand[at]); break;
+    case 2: insert_text(d->operand, &d->operands, OPERANDS_MOST, below(d->operands + 1), made); break;
+    case 3: swap_texts(d->operand[at], d->operand[below(d->operands)]); break;
+    case 4: case 5: memcpy(d->operand[at], made, TEXT_MOST); break;
+    case 6: case 7: {           /* another selector, or one where none was */
+        char *dot = strchr(d->operand[at], '.');
+        size_t length = dot != NULL ? (size_t)(dot - d->operand[at]) : strlen(d->operand[at]);
+        snprintf(d->operand[at] + length, TEXT_MOST - length, ".%s", PICK(any_selectors));
+        break;
+    }
+    case 8: {                   /* the selector dropped */
+        char *dot = strchr(d->operand[at], '.');
+        if (dot != NULL)
+            *dot = '\0';
+        break;
+    }
+    case 9: {                   /* `!` put in front */
+        snprintf(made, sizeof made, "%s", d->operand[at]);
+        d->operand[at][0] = '!';
+        memcpy(d->operand[at] + 1, made, TEXT_MOST - 1);
+        d->operand[at][TEXT_MOST - 1] = '\0';
+        break;
+    }
+    case 10: {                  /* a pair of one predicate */
+        unsigned p = below(percent(80) ? 16 : 20);
+        snprintf(d->operand[0], TEXT_MOST, "%%p%u|%%p%u", p, p);
+        break;
+    }
+    default: {                  /* the other file */
+        char *o = d->operand[at];
+        char *r = strchr(o, 'r');
+        if (r != NULL && r[1] == 'd')
+            memmove(r + 1, r + 2, strlen(r + 2) + 1);
+        else if (r != NULL && strlen(o) + 1 < TEXT_MOST) {
+            memmove(r + 2, r + 1, strlen(r + 1) + 1);
+            r[1] = 'd';
+        } else {
+            r = strchr(o, 'p');
+            if (r != NULL)
+                *r = 'r';
+        }
+        break;
+    }
+    }
+}
+
+/* A register number of an operand or the guard put at an edge. */
+static void spoil_number(Draft *d)
+{
+    static const char *const edges[] = {
+        "0", "15", "16", "31", "32", "63", "64", "99", "100", "999", "1000", "00", "01", "063", "0", "63", "64"
+    };
+    unsigned at = below(d->operands + (d->guard[0] != '\0'));
+    char *text = at < d->operands ? d->operand[at] : d->guard;
+    char made[2 * TEXT_MOST];
+    char *number = text;
+    while (*number != '\0' && !(*number >= '0' && *number <= '9'))
+        number++;
+    char *rest = number;
+    while (*rest >= '0' && *rest <= '9')
+        rest++;
+    snprintf(made, sizeof made, "%.*s%s%s", (int)(number - text), text, PICK(edges), rest);
+    made[TEXT_MOST - 1] = '\0';
+    memcpy(text, made, TEXT_MOST);
+}
+
+static void spoil_guard(Draft *d)
+{
+    char made[TEXT_MOST];
+    any_register(made);
+    switch (below(5)) {
+    case 0: snprintf(d->guard, TEXT_MOST, "@%.30s", made); break;
+    case 1: snprintf(d->guard, TEXT_MOST, "@!%.30s", made); break;
+    case 2: snprintf(d->guard, TEXT_MOST, "@%s%%p%u", percent(50) ? "!" : "", below(24)); break;
+    case 3: snprintf(d->guard, TEXT_MOST, "@%%p%u.%.20s", below(16), PICK(any_selectors)); break;
+    default: snprintf(d->guard, TEXT_MOST, "%s", percent(50) ? "@!!%p1" : percent(50) ? "@" : "@_"); break;
+    }
+}
+
+/* ---- lines from drafts ---- */
+
+enum { LINE_ROOM = 1024 };
+
+typedef struct {
+    Byte bytes[LINE_ROOM];
+    size_t length;
+} Line;
+
+static void put_bytes(Line *line, const char *from)
+{
+    size_t n = strlen(from);
+    if (n > LINE_ROOM - 300 - line->length)
+        n = LINE_ROOM - 300 - line->length;
+    memcpy(line->bytes + line->length, from, n);
+    line->length += n;
+}
+
+static void put_blanks(Line *line, unsigned n)
+{
+    while (n-- > 0 && line->length < LINE_ROOM - 300)
+        line->bytes[line->length++] = percent(75) ? ' ' : '\t';
+}
+
+enum { GAPS = 5 + 2 * OPERANDS_MOST };
+
+/*
+ * Blanks at each place that may have some: 0 in front, 1 behind the guard,
+ * 2 behind the head, 3 in front of `;`, 4 at the end, then two for each comma.
+ */
+static void standard_gaps(unsigned gap[GAPS])
+{
+    memset(gap, 0, GAPS * sizeof gap[0]);
+    gap[1] = gap[2] = 1;
+    for (unsigned i = 6; i < GAPS; i += 2)
+        gap[i] = 1;
+}
+
+static void odd_gaps(unsigned gap[GAPS])
+{
+    for (unsigned i = 0; i < GAPS; i++)
+        gap[i] = percent(45) ? 0 : percent(60) ? 1 : below(5);
+    if (gap[1] == 0)
+        gap[1] = 1;
+    if (gap[2] == 0)
+        gap[2] = 1;
+}
+
+static void render(const Draft *d, const unsigned gap[GAPS], Line *line)
+{
+    line->length = 0;
+    put_blanks(line, gap[0]);
+    if (d->guard[0] != '\0') {
+        put_bytes(line, d->guard);
+        put_blanks(line, gap[1]);
+    }
+    for (unsigned i = 0; i < d->names; i++) {
+        if (i > 0)
+            put_bytes(line, ".");
+        put_bytes(line, d->name[i]);
+    }
+    put_blanks(line, gap[2]);
+    for (unsigned i = 0; i < d->operands; i++) {
+        if (i > 0) {
+            put_blanks(line, gap[5 + 2 * (i - 1)]);
+            put_bytes(line, ",");
+            put_blanks(line, gap[6 + 2 * (i - 1)]);
+        }
+        put_bytes(line, d->operand[i]);
+    }
+    put_blanks(line, gap[3]);
+    put_bytes(line, ";");
+    put_blanks(line, gap[4]);
+}
+
+static void render_some_way(const Draft *d, Line *line)
+{
+    unsigned gap[GAPS];
+    if (percent(60))
+        standard_gaps(gap);
+    else
+        odd_gaps(gap);
+    if (percent(1) && d->guard[0] != '\0')
+        gap[1] = 0;
+    render(d, gap, line);
+}
+
+/* The draft with blanks up to a length of 158 to 162 bytes. */
+static void render_long(const Draft *d, Line *line)
+{
+    static const size_t lengths[] = { 158, 159, 159, 160, 160, 160, 161, 161, 162 };
+    size_t wanted = PICK(lengths);
+    unsigned gap[GAPS];
+    standard_gaps(gap);
+    render(d, gap, line);
+    bool one_place = percent(50);
+    static const unsigned places[] = { 0, 2, 3, 4 };
+    unsigned place = PICK(places);
+    for (size_t n = line->length; n < wanted; n++)
+        gap[one_place ? place : PICK(places)]++;
+    render(d, gap, line);
+}
+
+/* ---- lines spoilt by bytes ---- */
+
+static void insert_byte(Line *line, size_t at, Byte b)
+{
+    if (line->length == LINE_ROOM)
+        return;
+    memmove(line->bytes + at + 1, line->bytes + at, line->length - at);
+    line->bytes[at] = b;
+    line->length++;
+}
+
+static void remove_byte(Line *line, size_t at)
+{
+    memmove(line->bytes + at, line->bytes + at + 1, line->length - at - 1);
+    line->length--;
+}
+
+static void spoil_byte(Line *line)
+{
+    static const char near[] = "%%rdp0123456789abhuseqltgn.,;|_!@ \t";
+    if (line->length == 0)
+        return;
+    size_t at = below((unsigned)line->length);
+    switch (below(5)) {
+    case 0:
+    case 1:
+        line->bytes[at] = percent(85) ? (Byte)near[below(sizeof near - 1)]
+                                      : (Byte)(line->bytes[at] ^ (1u << below(8)));
+        break;
+    case 2: remove_byte(line, at); break;
+    case 3: insert_byte(line, at, line->bytes[at]); break;
+    default:
+        if (at + 1 < line->length) {
+            Byte t = line->bytes[at];
+            line->bytes[at] = line->bytes[at + 1];
+            line->bytes[at + 1] = t;
+        }
+        break;
+    }
+}
+
+static void insert_hostile(Line *line)
+{
+    static const Byte hostile[] = {
+        0, '\r', 0x80, 0xFF, 0x0B, 0x0C, 0x1B, 0x7F, 0xA0, 0xC3, '\\', '"', '{', '/', '-', '+', 'R', 'A', ':'
+    };
+    size_t at = percent(40) ? line->length : below((unsigned)line->length + 1);
+    insert_byte(line, at, PICK(hostile));
+}
+
+static void random_bytes(Line *line)
+{
+    line->length = below(60);
+    for (size_t i = 0; i < line->length; i++)
+        line->bytes[i] = (Byte)below(256);
+}
+
+static void random_tokens(Line *line)
+{
+    static const char *const tokens[] = {
+        "%r1", "%rd2", "%p3", "@", "!", "|", "_", ".", ",", ";", " ", "\t", "vadd", "u32", "set", "eq", "%", "63"
+    };
+    line->length = 0;
+    for (unsigned n = below(14); n > 0; n--)
+        put_bytes(line, PICK(tokens));
+}
+
+/* Many operands or names, up to about the longest line. */
+static void crowded(Line *line)
+{
+    size_t most = 140 + below(30);
+    line->length = 0;
+    if (percent(50)) {
+        put_bytes(line, "vadd.u32.u32.u32 %r1");
+        while (line->length < most)
+            put_bytes(line, percent(50) ? ",%r2" : ", %r3");
+    } else {
+        put_bytes(line, percent(50) ? "vadd.u32.u32.u32" : "vadd");
+        while (line->length < most)
+            put_bytes(line, percent(50) ? ".u32" : percent(50) ? ".sat" : "sat");
+        put_bytes(line, " %r1,%r2,%r3");
+    }
+    put_bytes(line, ";");
+}
+
+/* ---- the whole ---- */
+
+static void emit_line(void)
+{
+    Draft draft;
+    Line line;
+    draft_good(&draft);
+    unsigned kind = below(1000);
+
+    if (kind < 620) {
+        render_some_way(&draft, &line);
+    } else if (kind < 642) {
+        render_long(&draft, &line);
+    } else if (kind < 730) {
+        render_some_way(&draft, &line);
+        spoil_byte(&line);
+    } else if (kind < 793) {
+        spoil_names(&draft);
+        render_some_way(&draft, &line);
+    } else if (kind < 868) {
+        spoil_operands(&draft);
+        render_some_way(&draft, &line);
+    } else if (kind < 876) {    /* a pair of one predicate */
+        unsigned p = predicate();
+        memset(&draft, 0, sizeof draft);
+        draft_set(&draft, true);
+        snprintf(draft.operand[0], TEXT_MOST, "%%p%u|%%p%u", p, p);
+        render_some_way(&draft, &line);
+    } else if (kind < 920) {
+        spoil_number(&draft);
+        render_some_way(&draft, &line);
+    } else if (kind < 930) {
+        spoil_guard(&draft);
+        render_some_way(&draft, &line);
+    } else if (kind < 946) {
+        render_some_way(&draft, &line);
+        insert_byte(&line, below((unsigned)line.length + 1), percent(60) ? ' ' : '\t');
+    } else if (kind < 962) {
+        render_some_way(&draft, &line);
+        insert_hostile(&line);
+    } else if (kind < 972) {
+        line.length = 0;
+        if (percent(40))
+            put_blanks(&line, below(5));
+    } else if (kind < 977) {
+        random_bytes(&line);
+    } else if (kind < 982) {
+        random_tokens(&line);
+    } else if (kind < 986) {
+        crowded(&line);
+    } else {                    /* two misses at once: the order of refusals */
+        for (int i = 0; i < 2; i++)
+            switch (below(4)) {
+            case 0: spoil_names(&draft); break;
+            case 1: if (draft.operands > 0) spoil_operands(&draft); break;
+            case 2: if (draft.operands > 0) spoil_number(&draft); break;
+            default: spoil_guard(&draft); break;
+            }
+        if (percent(30))
+            render_long(&draft, &line);
+        else
+            render_some_way(&draft, &line);
+    }
+    emit(line.bytes, line.length);
+}
+
+int main(int argc, char **argv)
+{
+    if (argc != 3) {
+        fprintf(stderr, "usage: generate SEED BYTES\n");
+        return 2;
+    }
+    state = strtoull(argv[1], NULL, 0) * UINT64_C(0xD1342543DE82EF95) + 1;
+    unsigned long long bytes = strtoull(argv[2], NULL, 0);
+    limit = bytes < LISTING_MOST ? (size_t)bytes : LISTING_MOST;
+    if (limit == 0)
+        return 0;
+
+    if (limit >= 4000 ? percent(90) : percent(40)) {
+        emit_kit();
+        emit_predicates();
+    }
+    if (limit >= 30000 && percent(4))           /* high line numbers, much output */
+        for (unsigned n = 5000 + below(15000); n > 0; n--)
+            emit((const Byte *)"", 0);
+    while (!full) {
+        if (limit >= 4000 && below(250) == 0)
+            emit_kit();
+        else if (below(40) == 0)
+            emit_predicates();
+        emit_line();
+    }
+    return fwrite(listing, 1, used, stdout) == used && fflush(stdout) == 0 ? 0 : 1;
+}
