@@ -5,3 +5,4 @@ pub mod Moved
 pub mod Text
 pub mod Bytes
 pub mod Pack
+pub mod Lookup

@@ -1,7 +1,7 @@
 -- Standard lines over the definition: those of document 01's example listing, and one for each opcode, form and default. One list with one claim.
 use Prim.Native.Nat.{ℕ}
 use mathlib.Core.Path.{_≡_, refl}
-use mathlib.Core.Bool.{Bool, true, false}
+use mathlib.Core.Bool.{true, false}
 use mathlib.Core.List.{List, [], _∷_, map}
 use Rattle.base.specs.Text.{bytes}
 use Rattle.record.specs.Operands.{fullMask, defaultA, defaultB}
@@ -24,9 +24,7 @@ use Rattle.record.specs.declared.CmpOp.{CmpOp}
 use Rattle.record.specs.declared.BoolOp.the-variants.{And, Xor}
 use Rattle.record.specs.declared.Op2.the-variants.{Min}
 use Rattle.record.specs.declared.Arith.the-variants.{Vadd, Vabsdiff}
-use Rattle.record.specs.declared.Guard.{Guard}
 use Rattle.record.specs.declared.Guard.the-variants.{Always, When}
-use Rattle.record.specs.declared.Combination.{Combination}
 use Rattle.record.specs.declared.Combination.the-variants.{Alone, With}
 use Rattle.record.specs.declared.Selector.the-variants.{B0, B2, H1}
 use Rattle.record.specs.declared.Selected.the-variants.{Whole, Part}

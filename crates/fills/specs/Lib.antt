@@ -1,4 +1,3 @@
-pub mod Lookup
 pub mod Registers
 pub mod Selectors
 pub mod Fills

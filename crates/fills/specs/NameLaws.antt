@@ -20,7 +20,7 @@ use Rattle.rules.specs.Shape.{Name, digit}
 use Rattle.rules.specs.Names.{selectorName, maskName, digitsName}
 use Rattle.rules.specs.Grammar.{GoodName}
 use Rattle.tree.specs.CodeLaws.{code-known}
-use Rattle.fills.specs.Lookup.{found}
+use Rattle.base.specs.Lookup.{found}
 use Rattle.fills.specs.Selectors.{selectors, selectorOf, halfMasks, byteMasks, halfMask, byteMask, maskOf, digitsIn, digitsOf}
 use Rattle.fills.specs.declared.SelectorFound
 use Rattle.fills.specs.declared.SelectorFound.{SelectorFound}

@@ -9,7 +9,7 @@ use Rattle.record.specs.declared.LaneWidth.the-variants.{Half, Byte}
 use Rattle.record.specs.declared.Selector.the-variants.{B0, B1, B2, B3, H0, H1}
 use Rattle.record.specs.declared.Digits.{Digits}
 use Rattle.rules.specs.Names.{digitsName}
-use Rattle.fills.specs.Lookup.{lookup}
+use Rattle.base.specs.Lookup.{lookup}
 use Rattle.fills.specs.declared.SelectorFound
 use Rattle.fills.specs.declared.SelectorFound.{SelectorFound}
 use Rattle.fills.specs.declared.MaskFound

@@ -1,14 +1,13 @@
 -- What a number means is what its name means: the tables of numbers and the spellings of document 01 agree, both ways.
 use Prim.Native.Nat.{ℕ}
-use mathlib.Core.Path.{_≡_, refl, sym, subst}
-use mathlib.Core.Bool.{Bool, true, false, cond}
-use mathlib.Core.List.{List, [], _∷_}
-use borrow.Author.Tests.{eqb-true}
+use mathlib.Core.Path.{_≡_, refl, subst}
+use mathlib.Core.Bool.{true, false}
 use lib.Dec.{eqb}
 use Rattle.base.specs.Pack.{codeOf}
 use Rattle.base.specs.Text.{bytes}
 use Rattle.rules.specs.Shape.{Name}
 use Rattle.rules.specs.Names.{videoTypeName, setTypeName, typeName, sixName, cmpName, boolName, op2Name, arithName, lanesName}
+use Rattle.base.specs.Lookup.{found}
 use Rattle.tree.specs.CodeLaws.{CodeOf, isShortName}
 use Rattle.record.specs.declared.VideoType
 use Rattle.record.specs.declared.VideoType.{VideoType}
@@ -46,21 +45,7 @@ use Rattle.heads.specs.declared.BoolName
 use Rattle.heads.specs.declared.BoolName.{BoolName}
 use Rattle.heads.specs.declared.Op2Name
 use Rattle.heads.specs.declared.Op2Name.{Op2Name}
-use Rattle.heads.specs.Tables.{lookup, opcodeTable, opcodeOf, videoTable, videoOf, setTypeTable, setTypeOf, typeTable, typeOf, sixTable, sixOf, otherCmpTable, otherCmpOf, cmpBy, cmpOf, boolTable, boolOf, op2Table, op2Of, satCode, ftzCode, addCode, s32Code, f32Code}
-
--- a rule that each entry of a table keeps is kept by what is looked up
-module _ {A : Type 0} (P : ℕ → A → Type 0) where
-  abbrev pub Each : List (ℕ × A) → Type 0
-  Each [] = Unit {0}
-  Each (e ∷ l) = P (e .0) (e .1) × Each l
-
-  pub looked-up : (other : A) (l : List (ℕ × A)) → Each l → ((y : ℕ) → P y other) → (x : ℕ) → P x (lookup x l other)
-  looked-up other [] h o x = o x
-  looked-up other (e ∷ l) h o x = go (eqb x (e .0)) refl (looked-up other l (h .1) o x)
-    where
-      go : (t : Bool) → eqb x (e .0) ≡ t → P x (lookup x l other) → P x (cond t (e .1) (lookup x l other))
-      go true q r = subst (λ (k : ℕ). P k (e .1)) (sym (eqb-true x (e .0) q)) (h .0)
-      go false q r = r
+use Rattle.heads.specs.Tables.{opcodeTable, opcodeOf, videoTable, videoOf, setTypeTable, setTypeOf, typeTable, typeOf, sixTable, sixOf, otherCmpTable, otherCmpOf, cmpBy, cmpOf, boolTable, boolOf, op2Table, op2Of, satCode, ftzCode, addCode, s32Code, f32Code}
 
 of : {x : ℕ} {w : Name} → x ≡ codeOf w → isShortName w ≡ true → CodeOf x w
 of e s = record { code = e; short = s }
@@ -80,7 +65,7 @@ opcodeRule x OpcodeName.Not = Unit {0}
 
 pub opcode-sound : (x : ℕ) (t : Opcode) → opcodeOf x ≡ OpcodeName.Is t → CodeOf x (opcodeName t)
 unfolding opcodeOf codeOf
-opcode-sound x t e = subst (opcodeRule x) e (looked-up opcodeRule OpcodeName.Not opcodeTable (of refl refl, (of refl refl, (of refl refl, (of refl refl, (of refl refl, (of refl refl, (of refl refl, (of refl refl, (of refl refl, (of refl refl, (of refl refl, (of refl refl, tt)))))))))))) (λ y. tt) x)
+opcode-sound x t e = subst (opcodeRule x) e (found opcodeRule OpcodeName.Not opcodeTable (of refl refl, (of refl refl, (of refl refl, (of refl refl, (of refl refl, (of refl refl, (of refl refl, (of refl refl, (of refl refl, (of refl refl, (of refl refl, (of refl refl, tt)))))))))))) x tt)
 
 pub opcode-complete : (t : Opcode) → opcodeOf (codeOf (opcodeName t)) ≡ OpcodeName.Is t
 unfolding opcodeOf codeOf
@@ -103,7 +88,7 @@ videoRule x VideoName.Not = Unit {0}
 
 pub video-sound : (x : ℕ) (t : VideoType) → videoOf x ≡ VideoName.Is t → CodeOf x (videoTypeName t)
 unfolding videoOf codeOf
-video-sound x t e = subst (videoRule x) e (looked-up videoRule VideoName.Not videoTable (of refl refl, (of refl refl, tt)) (λ y. tt) x)
+video-sound x t e = subst (videoRule x) e (found videoRule VideoName.Not videoTable (of refl refl, (of refl refl, tt)) x tt)
 
 pub video-complete : (t : VideoType) → videoOf (codeOf (videoTypeName t)) ≡ VideoName.Is t
 unfolding videoOf codeOf
@@ -116,7 +101,7 @@ setTypeRule x SetName.Not = Unit {0}
 
 pub set-type-sound : (x : ℕ) (t : SetType) → setTypeOf x ≡ SetName.Is t → CodeOf x (setTypeName t)
 unfolding setTypeOf codeOf
-set-type-sound x t e = subst (setTypeRule x) e (looked-up setTypeRule SetName.Not setTypeTable (of refl refl, (of refl refl, (of refl refl, tt))) (λ y. tt) x)
+set-type-sound x t e = subst (setTypeRule x) e (found setTypeRule SetName.Not setTypeTable (of refl refl, (of refl refl, (of refl refl, tt))) x tt)
 
 pub set-type-complete : (t : SetType) → setTypeOf (codeOf (setTypeName t)) ≡ SetName.Is t
 unfolding setTypeOf codeOf
@@ -130,7 +115,7 @@ typeRule x TypeName.Not = Unit {0}
 
 pub type-sound : (x : ℕ) (t : DataType) → typeOf x ≡ TypeName.Is t → CodeOf x (typeName t)
 unfolding typeOf codeOf
-type-sound x t e = subst (typeRule x) e (looked-up typeRule TypeName.Not typeTable (of refl refl, (of refl refl, (of refl refl, (of refl refl, (of refl refl, (of refl refl, (of refl refl, (of refl refl, tt)))))))) (λ y. tt) x)
+type-sound x t e = subst (typeRule x) e (found typeRule TypeName.Not typeTable (of refl refl, (of refl refl, (of refl refl, (of refl refl, (of refl refl, (of refl refl, (of refl refl, (of refl refl, tt)))))))) x tt)
 
 pub type-complete : (t : DataType) → typeOf (codeOf (typeName t)) ≡ TypeName.Is t
 unfolding typeOf codeOf
@@ -149,7 +134,7 @@ sixRule x SixName.Not = Unit {0}
 
 pub six-sound : (x : ℕ) (t : Cmp6) → sixOf x ≡ SixName.Is t → CodeOf x (sixName t)
 unfolding sixOf codeOf
-six-sound x t e = subst (sixRule x) e (looked-up sixRule SixName.Not sixTable (of refl refl, (of refl refl, (of refl refl, (of refl refl, (of refl refl, (of refl refl, tt)))))) (λ y. tt) x)
+six-sound x t e = subst (sixRule x) e (found sixRule SixName.Not sixTable (of refl refl, (of refl refl, (of refl refl, (of refl refl, (of refl refl, (of refl refl, tt)))))) x tt)
 
 pub six-complete : (t : Cmp6) → sixOf (codeOf (sixName t)) ≡ SixName.Is t
 unfolding sixOf codeOf
@@ -166,7 +151,7 @@ otherCmpRule x CmpName.Not = Unit {0}
 
 pub other-cmp-sound : (x : ℕ) (t : CmpOp) → otherCmpOf x ≡ CmpName.Is t → CodeOf x (cmpName t)
 unfolding otherCmpOf codeOf
-other-cmp-sound x t e = subst (otherCmpRule x) e (looked-up otherCmpRule CmpName.Not otherCmpTable (of refl refl, (of refl refl, (of refl refl, (of refl refl, (of refl refl, (of refl refl, (of refl refl, (of refl refl, (of refl refl, (of refl refl, (of refl refl, (of refl refl, tt)))))))))))) (λ y. tt) x)
+other-cmp-sound x t e = subst (otherCmpRule x) e (found otherCmpRule CmpName.Not otherCmpTable (of refl refl, (of refl refl, (of refl refl, (of refl refl, (of refl refl, (of refl refl, (of refl refl, (of refl refl, (of refl refl, (of refl refl, (of refl refl, (of refl refl, tt)))))))))))) x tt)
 
 pub cmp-sound : (x : ℕ) (t : CmpOp) → cmpOf x ≡ CmpName.Is t → CodeOf x (cmpName t)
 unfolding cmpOf cmpBy
@@ -203,7 +188,7 @@ boolRule x BoolName.Not = Unit {0}
 
 pub bool-sound : (x : ℕ) (t : BoolOp) → boolOf x ≡ BoolName.Is t → CodeOf x (boolName t)
 unfolding boolOf codeOf
-bool-sound x t e = subst (boolRule x) e (looked-up boolRule BoolName.Not boolTable (of refl refl, (of refl refl, (of refl refl, tt))) (λ y. tt) x)
+bool-sound x t e = subst (boolRule x) e (found boolRule BoolName.Not boolTable (of refl refl, (of refl refl, (of refl refl, tt))) x tt)
 
 pub bool-complete : (t : BoolOp) → boolOf (codeOf (boolName t)) ≡ BoolName.Is t
 unfolding boolOf codeOf
@@ -217,7 +202,7 @@ op2Rule x Op2Name.Not = Unit {0}
 
 pub op2-sound : (x : ℕ) (t : Op2) → op2Of x ≡ Op2Name.Is t → CodeOf x (op2Name t)
 unfolding op2Of codeOf
-op2-sound x t e = subst (op2Rule x) e (looked-up op2Rule Op2Name.Not op2Table (of refl refl, (of refl refl, (of refl refl, tt))) (λ y. tt) x)
+op2-sound x t e = subst (op2Rule x) e (found op2Rule Op2Name.Not op2Table (of refl refl, (of refl refl, (of refl refl, tt))) x tt)
 
 pub op2-complete : (t : Op2) → op2Of (codeOf (op2Name t)) ≡ Op2Name.Is t
 unfolding op2Of codeOf

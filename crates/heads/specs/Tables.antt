@@ -3,6 +3,7 @@ use Prim.Native.Nat.{ℕ}
 use mathlib.Core.Bool.{Bool, not, _&&_, cond}
 use mathlib.Core.List.{List, [], _∷_}
 use lib.Dec.{eqb}
+use Rattle.base.specs.Lookup.{lookup}
 use Rattle.record.specs.declared.VideoType
 use Rattle.record.specs.declared.VideoType.{VideoType}
 use Rattle.record.specs.declared.SetType
@@ -39,11 +40,6 @@ use Rattle.heads.specs.declared.BoolName
 use Rattle.heads.specs.declared.BoolName.{BoolName}
 use Rattle.heads.specs.declared.Op2Name
 use Rattle.heads.specs.declared.Op2Name.{Op2Name}
-
--- the meaning of a number in a table, or the other
-abbrev pub lookup : {A : Type 0} → ℕ → List (ℕ × A) → A → A
-lookup x [] other = other
-lookup x (e ∷ l) other = cond (eqb x (e .0)) (e .1) (lookup x l other)
 
 -- the opcodes
 abbrev pub opcodeTable : List (ℕ × OpcodeName)

@@ -25,13 +25,12 @@ use Rattle.record.specs.declared.Instruction.{Instruction}
 use Rattle.record.specs.declared.Instruction.the-variants.{Arithmetic, Vset, VsetLanes, Set, Setp, Selp, Slct}
 use Rattle.record.specs.declared.Record.{Record}
 use Rattle.rules.specs.Executing.{word, double, pred}
-use Rattle.rules.specs.Shape.{Name, OperandTree}
+use Rattle.rules.specs.Shape.{Name}
 use Rattle.rules.specs.Names.{lanesName, formOp2, combinationNames, headNames}
-use Rattle.rules.specs.StandardLine.{p}
 use Rattle.rules.specs.Grammar.GoodNames.{more as name-more}
 use Rattle.rules.specs.Grammar.GoodOthers.{none as no-other, more as other-more}
 use Rattle.rules.specs.Grammar.GoodOperands.{none as no-operand, more as operand-more}
-use Rattle.rules.specs.Grammar.{LineTree, GuardTree, unguarded, guarded, Divided, namesOf, operandsOf, Good, GoodNames, GoodOthers, GoodOperands, Shaped}
+use Rattle.rules.specs.Grammar.{LineTree, GuardTree, unguarded, guarded, Divided, namesOf, operandsOf, GoodOthers, GoodOperands, Shaped}
 use Rattle.rules.specs.Reading.{GuardSpells, Spells, Relates, lineLimit, opcodes, Listed, here, later, Row, Fits, Refuses, over-160, no-shape, no-opcode, no-row, no-fit, out-of-file, same-pair, Answer, read, refused, Answers, accepts, refuses}
 use Rattle.tree.specs.Seen.{seen, seenGuard, seenHead, seenOperands}
 use Rattle.tree.specs.Blank.{blank, blankForm, blankCombination}
@@ -39,7 +38,7 @@ use Rattle.tree.specs.declared.Guarding.{Guarding}
 use Rattle.tree.specs.declared.Parts.{Parts}
 use Rattle.shape.specs.Line.{shapeOf}
 use Rattle.shape.specs.Complete.{shape-complete}
-use Rattle.shape.specs.Sound.{ShapedAs, shape-sound}
+use Rattle.shape.specs.Sound.{shape-sound}
 use Rattle.heads.specs.Rows.{rowOf}
 use Rattle.heads.specs.Complete.{row-complete, same-row, wrong-no-row, fit-blank}
 use Rattle.heads.specs.Sound.{row-sound, no-opcode-known, wrong-known}

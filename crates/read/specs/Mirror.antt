@@ -20,7 +20,6 @@ use Rattle.tree.specs.declared.Place
 use Rattle.tree.specs.declared.Place.{Place}
 use Rattle.tree.specs.declared.Guarding.{Guarding}
 use Rattle.tree.specs.declared.Guarding.the-variants.{Unguarded, Guarded}
-use Rattle.tree.specs.declared.Operands.{Operands}
 use Rattle.tree.specs.declared.Parts.{Parts}
 use Rattle.shape.specs.Line.{shapeOf}
 use Rattle.heads.specs.Rows.{rowOf}

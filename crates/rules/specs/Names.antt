@@ -13,9 +13,7 @@ use Rattle.record.specs.declared.DataType.{DataType}
 use Rattle.record.specs.declared.DataType.the-variants.{B32, B64, U32, U64, S32, S64, F32, F64}
 use Rattle.record.specs.declared.Cmp6.{Cmp6}
 use Rattle.record.specs.declared.Cmp6.the-variants.{Eq, Ne, Lt, Le, Gt, Ge}
-use Rattle.record.specs.declared.CmpU.{CmpU}
 use Rattle.record.specs.declared.CmpU.the-variants.{Lo, Ls, Hi, Hs}
-use Rattle.record.specs.declared.CmpF.{CmpF}
 use Rattle.record.specs.declared.CmpF.the-variants.{Equ, Neu, Ltu, Leu, Gtu, Geu, Num, Nan}
 use Rattle.record.specs.declared.CmpOp
 use Rattle.record.specs.declared.CmpOp.{CmpOp}

@@ -10,7 +10,6 @@ use Rattle.record.specs.Operands.{lanesFit, operandsFit}
 use Rattle.record.specs.Refusals.{numbersInRange, pairApart, Legal}
 use Rattle.record.specs.declared.Guard.{Guard}
 use Rattle.record.specs.declared.Guard.the-variants.{Always, When}
-use Rattle.record.specs.declared.LaneWidth.{LaneWidth}
 use Rattle.record.specs.declared.Instruction.{Instruction}
 use Rattle.record.specs.declared.Instruction.the-variants.{Arithmetic, Vset, VsetLanes, Set, Setp, Selp, Slct}
 use Rattle.record.specs.declared.Record.{Record}

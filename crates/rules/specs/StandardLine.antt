@@ -1,7 +1,6 @@
 -- Document 01, "The standard line": guard, if any, and one space; head; one space; operands joined by comma and one space; `;`.
 use Prim.Native.Nat.{ℕ}
-use mathlib.Core.Path.{_≡_, refl}
-use mathlib.Core.Bool.{Bool, true, false, Bool·beq, _&&_, cond}
+use mathlib.Core.Bool.{Bool, Bool·beq, _&&_, cond}
 use mathlib.Core.List.{List, [], _∷_, _++_}
 use lib.Dec.{eqb}
 use Rattle.base.specs.Text.{bytes}
@@ -29,8 +28,8 @@ use Rattle.record.specs.declared.Destination.the-variants.{One, Pair, First, Se
 use Rattle.record.specs.declared.Instruction.{Instruction}
 use Rattle.record.specs.declared.Instruction.the-variants.{Arithmetic, Vset, VsetLanes, Set, Setp, Selp, Slct}
 use Rattle.record.specs.declared.Record.{Record}
-use Rattle.rules.specs.Executing.{Place, word, pred, operandPlace, formD}
-use Rattle.rules.specs.Shape.{Name, headText, Spot, at, nothing, OperandTree, inverted, pair, bare, part, operandText, guardText}
+use Rattle.rules.specs.Executing.{Place, word, pred, operandPlace}
+use Rattle.rules.specs.Shape.{headText, at, nothing, OperandTree, inverted, pair, bare, part, operandText, guardText}
 use Rattle.rules.specs.Names.{headNames, selectorName, maskName, digitsName}
 
 -- ==== the operands of a record, in their order

@@ -1,20 +1,13 @@
 -- A name is known by its number.
 use Prim.Native.Nat.{ℕ, suc, zero, _+_, _*_, _-_, _%_, _^_, _≤_, _<_}
-use mathlib.Core.Path.{_≡_, refl, ap, _∙_}
+use mathlib.Core.Path.{_≡_}
 use mathlib.Core.List.{List, [], _∷_}
-use mathlib.Core.Bool.{Bool, true, false, _&&_, _||_, cond}
 use native.Mathlib.Omega.{arith}
 use native.Mathlib.Nat.{pow-suc}
-use borrow.Author.Tests.{le-leb, lt-leb, leb-true}
-use lib.Dec.{leb}
+use borrow.Author.Tests.{le-leb, lt-leb}
 use lib.ListN.{length, getD, drop, length-drop}
 use lib.Seq.{drop-cons}
-use Rattle.base.specs.Bytes.{isNameByte, All}
-use Rattle.base.specs.Bytes.All.{none, more}
 use Rattle.base.specs.Pack.{radix, pack, longestName, codeOf}
-use Rattle.rules.specs.Shape.{Name}
-use Rattle.rules.specs.Grammar.{GoodName}
-use Rattle.scan.specs.RunLaws.{not-so}
 
 -- ---- the loop that packs a name, from its last byte
 

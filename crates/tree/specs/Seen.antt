@@ -1,6 +1,6 @@
 -- What the reader keeps of a line's tree. No one has to believe it: the laws of the rooms above join it to the tree.
 use Prim.Native.Nat.{ℕ}
-use mathlib.Core.List.{List, [], _∷_, _++_, map}
+use mathlib.Core.List.{List, _++_, map}
 use lib.ListN.{length, take, replicate}
 use Rattle.base.specs.Pack.{codeOf}
 use Rattle.rules.specs.Executing as executing

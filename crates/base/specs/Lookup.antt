@@ -1,4 +1,4 @@
--- Look-up in a table of numbers, and what it finds: a rule that each entry keeps is kept by what is found.
+-- Look-up in a table of numbers, and what it finds: a rule that each entry keeps is kept by what is found. Assumes nothing.
 use Prim.Native.Nat.{ℕ}
 use mathlib.Core.Path.{_≡_, refl, sym, subst}
 use mathlib.Core.Bool.{Bool, true, false, cond}
