@@ -33,7 +33,7 @@ ghost use Prim.Native.Nat.{_<_};
 ghost use Rattle.base.specs.Pack.{pack};
 ghost use Rattle.rules.specs.Shape.{digit};
 ghost use Rattle.rules.specs.Names.{digitsName};
-ghost use Rattle.record.specs.Operands.{fullMask, defaultA, defaultB};
+ghost use Rattle.record.specs.Operands.{fullMask};
 ghost use Rattle.fills.specs.Registers.{wordOf, predOf, operandOf, bareWord, barePred, bareOperand, conditionBy, conditionOf, spotBy, spotOf, pairBy, secondBy, spotsBy, oneBy, destinationOf};
 ghost use Rattle.fills.specs.Selectors.{selectorOf, maskFound, halfMask, byteMask, maskOf, digitsIn, digitsOf};
 ghost use Rattle.fills.specs.Fills.{treeAt, wholeBy, partBy, selectedOf, startPlain, startCombine, startOf, lastBy, plainForm, mergeForm, combineForm, formOf, scalarBy, scalarEnd, scalarOf, maskedBy, maskedOf, lanedBy, lanedOf, lanesWith, lanesBy, lanesOf, aloneBy, withBy, combinationOf, comparisonBy, comparisonEnd, comparisonOf, choiceBy, choiceOf, arithmeticFrom, vsetFrom, lanesFrom, setFrom, setpFrom, predLast, selpFrom, slctFrom, filledOf};

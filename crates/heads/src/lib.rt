@@ -11,12 +11,10 @@ use record::Comparison;
 use record::Condition;
 use record::DataType;
 use record::Destination;
-use record::Digits;
 use record::Form;
 use record::Instruction;
 use record::LaneWidth;
 use record::Lanes;
-use record::Mask;
 use record::Op2;
 use record::Operand;
 use record::Pred;
@@ -28,10 +26,9 @@ use record::VideoType;
 use record::Word;
 use tree::Head;
 ghost use mathlib.Core.Path.{_≡_};
-ghost use Rattle.record.specs.Operands.{fullMask, defaultA, defaultB};
 ghost use Rattle.tree.specs.Blank.{blankChoice};
 ghost use Rattle.heads.specs.Tables.{opcodeOf, videoOf, setTypeOf, typeOf, slctTypeOf, sixOf, otherCmpOf, cmpOf, boolOf, op2Of};
-ghost use Rattle.heads.specs.Rows.{nameAt, past, wholeOf, scalarOf, lanesOf, comparisonOf, sidesBy, sidesAt, comparedBy, comparedOf, endingBy, endingAt, arithmeticBy, arithmeticOf, vsetBy, vsetOf, lanesBy, lanesRow, testAt, testedBy, testedOf, setBy, setAt, setFrom, setOf, setpBy, setpAt, setpFrom, setpOf, selpBy, selpOf, slctBy, slctAt, slctOf, readOf, foundOf, rowBy, rowOf};
+ghost use Rattle.heads.specs.Rows.{nameAt, past, wholeOf, scalarOf, lanesOf, comparisonOf, sidesBy, sidesAt, comparedBy, comparedOf, endingBy, endingAt, arithmeticBy, arithmeticOf, vsetBy, vsetOf, lanesBy, lanesRow, testAt, testedBy, testedOf, setBy, setAt, setOf, setpBy, setpAt, setpOf, selpBy, selpOf, slctBy, slctAt, slctOf, readOf, foundOf, rowOf};
 
 // The instruction that the head names, its operands blank; or no opcode; or the index of the first wrong name.
 pub enum Found {

@@ -34,7 +34,7 @@ ghost use mathlib.Core.Path.{_≡_};
 ghost use mathlib.Core.Bool.{cond};
 ghost use mathlib.Core.List.{[], _∷_, _++_};
 ghost use Prim.Native.Nat.{_≤_};
-ghost use lib.ListN.{length, take, drop};
+ghost use lib.ListN.{length, take};
 ghost use Rattle.base.specs.Text.{bytes};
 ghost use Rattle.record.specs.Operands.{fullMask};
 ghost use Rattle.rules.specs.Executing.{operandPlace, double};
