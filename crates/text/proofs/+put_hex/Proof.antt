@@ -1,0 +1,123 @@
+use native.Mathlib.Omega.{arith}
+use borrow.Author.Needs.{needs}
+use Rattle.text.specs.Buffer.{same, _then_}
+use Rattle.text.specs.Digits.{hex-none, hex-more}
+use Prim.Native.Nat.{ℕ, _<_}
+use borrow.Fn.Kinds.{In}
+use borrow.Fn.PlainCycle.{Measures, is, falls, and}
+use Rattle.text.proofs.put_hex.Reads as put-hex
+use Rattle.text.proofs.put_hex.Kinds as put-hex-kinds
+use Rattle.text.proofs.+put_hex.Lts-put_hex as put-hex-lts
+use Rattle.text.proofs.hex_digit.Reads as hex-digit-reads
+use Rattle.text.proofs.push.Reads as push-reads
+use Rattle.text.proofs.+put_hex.{statement}
+use Rattle.text.proofs.+put_hex.Tie.{close}
+
+abbrev μ-put-hex : Measures 1 put-hex-kinds.ps ℕ
+μ-put-hex κs a = a .1 .1 .1 .0
+
+abbrev put-hex-at : ℕ → In 1 put-hex-kinds.ps
+put-hex-at t = and 1 put-hex-kinds.ps (is 1 put-hex-kinds.ps μ-put-hex t) put-hex.Pre
+
+abbrev put-hex-below : ℕ → In 1 put-hex-kinds.ps
+put-hex-below t = and 1 put-hex-kinds.ps (falls 1 put-hex-kinds.ps _<_ μ-put-hex t) put-hex.Pre
+
+put-hex-returns : (t : ℕ) → put-hex-lts.Need-returns (
+  put-hex-below t,
+  put-hex.Post,
+  hex-digit-reads.Asked,
+  hex-digit-reads.Learnt,
+  push-reads.Asked,
+  push-reads.Learnt,
+) (put-hex-at t) put-hex.Post
+put-hex-returns t c = rw (c .if1 .taken, hex-none) (same _)
+
+put-hex-sub-put-hex : (t : ℕ) → put-hex-lts.Need-sub-put-hex (
+  put-hex-below t,
+  put-hex.Post,
+  hex-digit-reads.Asked,
+  hex-digit-reads.Learnt,
+  push-reads.Asked,
+  push-reads.Learnt,
+) (put-hex-at t) put-hex.Post
+put-hex-sub-put-hex t c = search needs
+
+put-hex-put-hex-requires : (t : ℕ) → put-hex-lts.Need-put-hex-requires (
+  put-hex-below t,
+  put-hex.Post,
+  hex-digit-reads.Asked,
+  hex-digit-reads.Learnt,
+  push-reads.Asked,
+  push-reads.Learnt,
+) (put-hex-at t) put-hex.Post
+put-hex-put-hex-requires t c κs = (omega arith, tt)
+
+put-hex-cast-hex-digit : (t : ℕ) → put-hex-lts.Need-cast-hex-digit (
+  put-hex-below t,
+  put-hex.Post,
+  hex-digit-reads.Asked,
+  hex-digit-reads.Learnt,
+  push-reads.Asked,
+  push-reads.Learnt,
+) (put-hex-at t) put-hex.Post
+put-hex-cast-hex-digit t c = search needs
+
+put-hex-hex-digit-requires : (t : ℕ) → put-hex-lts.Need-hex-digit-requires (
+  put-hex-below t,
+  put-hex.Post,
+  hex-digit-reads.Asked,
+  hex-digit-reads.Learnt,
+  push-reads.Asked,
+  push-reads.Learnt,
+) (put-hex-at t) put-hex.Post
+put-hex-hex-digit-requires t c κs = search needs
+
+put-hex-push-requires : (t : ℕ) → put-hex-lts.Need-push-requires (
+  put-hex-below t,
+  put-hex.Post,
+  hex-digit-reads.Asked,
+  hex-digit-reads.Learnt,
+  push-reads.Asked,
+  push-reads.Learnt,
+) (put-hex-at t) put-hex.Post
+put-hex-push-requires t c κs = search needs
+
+put-hex-same-length : (t : ℕ) → put-hex-lts.Need-same-length (
+  put-hex-below t,
+  put-hex.Post,
+  hex-digit-reads.Asked,
+  hex-digit-reads.Learnt,
+  push-reads.Asked,
+  push-reads.Learnt,
+) (put-hex-at t) put-hex.Post
+put-hex-same-length t c = search needs
+
+put-hex-returns-2 : (t : ℕ) → put-hex-lts.Need-returns-2 (
+  put-hex-below t,
+  put-hex.Post,
+  hex-digit-reads.Asked,
+  hex-digit-reads.Learnt,
+  push-reads.Asked,
+  push-reads.Learnt,
+) (put-hex-at t) put-hex.Post
+put-hex-returns-2 t c = rw (hex-more (c .before .before .before .before .before .before .before .before .before .before .before .args .digits) (c .before .before .before .before .before .before .before .before .before .before .before .args .x) (omega arith), ← c .before .before .before .hex-digit .ensures) (c .before .before .before .before .before .before .before .put-hex .ensures then c .before .before .push .ensures)
+
+pub +put-hex-spec : {M : Type 1} → statement M
++put-hex-spec = close μ-put-hex λ t. put-hex-lts.spec (
+  put-hex-below t,
+  put-hex.Post,
+  hex-digit-reads.Asked,
+  hex-digit-reads.Learnt,
+  push-reads.Asked,
+  push-reads.Learnt,
+)
+    (put-hex-at t)
+    put-hex.Post
+    (put-hex-returns t)
+    (put-hex-sub-put-hex t)
+    (put-hex-put-hex-requires t)
+    (put-hex-cast-hex-digit t)
+    (put-hex-hex-digit-requires t)
+    (put-hex-push-requires t)
+    (put-hex-same-length t)
+    (put-hex-returns-2 t)

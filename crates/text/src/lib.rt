@@ -1,0 +1,60 @@
+// Texts put into a lent buffer from a place on. What has no room is left out, so that no text asks for any.
+ghost use mathlib.Core.Path.{_≡_};
+ghost use mathlib.Core.List.{[], _∷_};
+ghost use Rattle.text.specs.Buffer.{buffer, Puts};
+ghost use Rattle.text.specs.Digits.{decimal, hexDigit, hex};
+
+// One byte; answers the next place.
+pub fn push(out: &mut [u8], at: usize, b: u8) -> usize
+    ensures { λ r. ⌜ Puts (buffer (now (out .entry)) at) (b ∷ []) (buffer (now (out .exit)) r) ⌝ }
+{
+    if out.len() <= at {
+        return at;
+    }
+    out[at] = b;
+    at + 1
+}
+
+// All bytes of a text.
+pub fn put(out: &mut [u8], at: usize, text: &[u8]) -> usize
+    ensures { λ r. ⌜ Puts (buffer (now (out .entry)) at) (now (text .entry)) (buffer (now (out .exit)) r) ⌝ }
+{
+    let mut next = at;
+    let mut k = 0;
+    while k < text.len() {
+        next = push(out, next, text[k]);
+        k += 1;
+    }
+    next
+}
+
+// A number in decimal.
+pub fn put_decimal(out: &mut [u8], at: usize, n: u64) -> usize
+    ensures { λ r. ⌜ Puts (buffer (now (out .entry)) at) (decimal n) (buffer (now (out .exit)) r) ⌝ }
+{
+    if n < 10 {
+        return push(out, at, n as u8 + b'0');
+    }
+    let next = put_decimal(out, at, n / 10);
+    push(out, next, (n % 10) as u8 + b'0')
+}
+
+fn hex_digit(d: u8) -> u8
+    ensures { λ r. ⌜ r ≡ hexDigit d ⌝ }
+{
+    if d < 10 {
+        return d + b'0';
+    }
+    d % 16 + b'A' - 10
+}
+
+// The last so many hexadecimal digits of a number.
+pub fn put_hex(out: &mut [u8], at: usize, x: u64, digits: u8) -> usize
+    ensures { λ r. ⌜ Puts (buffer (now (out .entry)) at) (hex digits x) (buffer (now (out .exit)) r) ⌝ }
+{
+    if digits == 0 {
+        return at;
+    }
+    let next = put_hex(out, at, x / 16, digits - 1);
+    push(out, next, hex_digit((x % 16) as u8))
+}
