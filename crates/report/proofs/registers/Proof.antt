@@ -1,0 +1,43 @@
+use denote.Ref.{now}
+use Rattle.rules.specs.Executing.{files}
+use Rattle.text.specs.Buffer.{_then_}
+use Rattle.report.specs.Listing.{registersText}
+use Rattle.report.proofs.Laws.{registers-printed}
+use Rattle.report.specs.Registers.{printing}
+use borrow.Author.Tests.{lt-ltb}
+use borrow.Author.Needs.{needs}
+use Rattle.report.proofs.registers.Statement.{statement}
+use Rattle.report.proofs.registers.Tie as tie
+
+returns : tie.Need-returns
+unfolding printing
+returns c =
+    simp
+    (lt-ltb _ _ (c .if1 .taken))
+
+put-file-requires : tie.Need-put-file-requires
+put-file-requires c κs = search needs
+
+put-file-requires-2 : tie.Need-put-file-requires-2
+put-file-requires-2 c κs = search needs
+
+put-file-requires-3 : tie.Need-put-file-requires-3
+put-file-requires-3 c κs = search needs
+
+same-length : tie.Need-same-length
+same-length c = search needs
+
+returns-2 : tie.Need-returns-2
+unfolding registersText
+returns-2 c = registers-printed (files (now (c .before .before .before .before .before .before .before .before .before .before .before .before .before .before .before .before .before .args .words)) (now (c .before .before .before .before .before .before .before .before .before .before .before .before .before .before .before .before .before .args .doubles)) (now (c .before .before .before .before .before .before .before .before .before .before .before .before .before .before .before .before .before .args .preds))) (c .before .before .before .before .before .before .before .before .before .before .before .before .if1 .left) ((c .before .before .before .before .before .before .before .before .before .before .put-file .ensures then c .before .before .before .before .before .before .put-file2 .ensures) then c .before .before .put-file3 .ensures)
+
+pub registers-spec : {M : Type 1} → statement M
+registers-spec =
+    tie.close
+    (tie.spec
+    returns
+    put-file-requires
+    put-file-requires-2
+    put-file-requires-3
+    same-length
+    returns-2)

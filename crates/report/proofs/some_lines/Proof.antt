@@ -1,0 +1,46 @@
+use denote.Ref.{now}
+use Rattle.rules.specs.Executing.{files}
+use borrow.Author.Needs.{needs}
+use Rattle.report.proofs.some_lines.Statement.{statement}
+use Rattle.report.proofs.some_lines.Tie as tie
+
+too-long-requires : tie.Need-too-long-requires
+too-long-requires c κs = search needs
+
+same-length : tie.Need-same-length
+same-length c = search needs
+
+returns : tie.Need-returns
+returns c = c .before .before .too-long .ensures (files (now (c .before .before .before .before .before .before .before .before .before .before .args .words)) (now (c .before .before .before .before .before .before .before .before .before .before .args .doubles)) (now (c .before .before .before .before .before .before .before .before .before .before .args .preds)))
+
+print-lines-requires : tie.Need-print-lines-requires
+print-lines-requires c κs = search needs
+
+same-length-2 : tie.Need-same-length-2
+same-length-2 c = search needs
+
+same-length-3 : tie.Need-same-length-3
+same-length-3 c = search needs
+
+same-length-4 : tie.Need-same-length-4
+same-length-4 c = search needs
+
+same-length-5 : tie.Need-same-length-5
+same-length-5 c = search needs
+
+returns-2 : tie.Need-returns-2
+returns-2 c = search needs
+
+pub some-lines-spec : {M : Type 1} → statement M
+some-lines-spec =
+    tie.close
+    (tie.spec
+    too-long-requires
+    same-length
+    returns
+    print-lines-requires
+    same-length-2
+    same-length-3
+    same-length-4
+    same-length-5
+    returns-2)

@@ -1,0 +1,20 @@
+use denote.Ref.{now}
+use Rattle.base.specs.Lists.{getD-past}
+use borrow.Author.Needs.{needs}
+use Rattle.report.proofs.word_at.Statement.{statement}
+use Rattle.report.proofs.word_at.Tie as tie
+
+mul-result : tie.Need-mul-result
+mul-result c = search needs
+
+shared-slice-read-result : tie.Need-shared-slice-read-result
+shared-slice-read-result c = search needs
+
+returns : tie.Need-returns
+returns c = search needs
+
+returns-2 : tie.Need-returns-2
+returns-2 c = getD-past (now (c .before .args .words)) (c .before .args .k) (c .if1 .left)
+
+pub word-at-spec : {M : Type 1} → statement M
+word-at-spec = tie.close (tie.spec mul-result shared-slice-read-result returns returns-2)

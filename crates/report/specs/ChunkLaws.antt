@@ -1,0 +1,152 @@
+-- Laws of the code's way through a listing: what a turn of its loops needs. Assumes nothing.
+use Prim.Native.Nat.{ℕ, suc, _+_, _-_, _≤_, _<_}
+use native.Mathlib.Nat.{sub-zero}
+use native.Mathlib.Numerals.{add-one}
+use native.Mathlib.Omega.{arith}
+use mathlib.Core.Path.{_≡_, refl, sym, _∙_, subst}
+use mathlib.Core.Bool.{Bool, true, false, _&&_, cond}
+use mathlib.Core.List.{List, [], _++_, append-assoc, append-nil}
+use lib.ListN.{length, drop, getD, length-append, drop-of-length-le}
+use lib.Seq.{drop-cons}
+use lib.Dec.{ltb, leb}
+use borrow.Author.Tests.{ltb-true, ltb-false, leb-true, leb-false, eq-eqb, ne-eqb}
+use Rattle.record.specs.Refusals.{Legal}
+use Rattle.record.specs.declared.Record.{Record}
+use Rattle.rules.specs.Executing.{Files, run, done, skipped}
+use Rattle.rules.specs.Executing as executing
+use Rattle.rules.specs.LineLengths.{longestLine, standard-length}
+use Rattle.rules.specs.Reading.{Answer, Answers, accepts, read, refused}
+use Rattle.text.specs.Buffer.{buffer, Puts, _then_, whole-front}
+use Rattle.text.specs.Digits.{decimal-short}
+use Rattle.report.specs.Listing.{lineFeed, executedText, answerText, lineText, Turn, listingLimit, tooLongText}
+use Rattle.report.specs.Chunks.{lineLength, lineAt, behind, nextPlace, nextNumber, lineRoom, PutsTurn, Some, ended, no-room, too-long, one-more, Prints}
+
+-- ==== where a line ends
+
+length-at-end : (s : List ℕ) (i : ℕ) → length s ≤ i → lineLength (drop i s) ≡ 0
+unfolding lineLength
+length-at-end s i h = rw (drop-of-length-le s h)
+
+pub ends-here : (s : List ℕ) (i at : ℕ) → length s ≤ i → i + lineLength (drop i s) ≡ at → i ≡ at
+ends-here s i at h e = omega (arith, length-at-end s i h)
+
+pub feed-here : (s : List ℕ) (i at : ℕ) → i < length s → getD s i 0 ≡ lineFeed → i + lineLength (drop i s) ≡ at → i ≡ at
+unfolding lineLength
+feed-here s i at h b e =
+    let k : lineLength (drop i s) ≡ 0 = rw (drop-cons s i 0 h, eq-eqb (getD s i 0) lineFeed b) in
+    omega arith
+
+pub no-feed-here : (s : List ℕ) (i at : ℕ) → i < length s → (getD s i 0 ≡ lineFeed → ⊥) → i + lineLength (drop i s) ≡ at → i + 1 + lineLength (drop (i + 1) s) ≡ at
+unfolding lineLength
+no-feed-here s i at h b e =
+    let k : lineLength (drop i s) ≡ suc (lineLength (drop (suc i) s)) = rw (drop-cons s i 0 h, ne-eqb (getD s i 0) lineFeed b) in
+    rw (add-one i) (omega arith)
+
+-- the next line begins further on
+pub further-on : (size from end : ℕ) → from < size → from ≤ end → from < behind size end
+further-on size from end h k = go (ltb end size) refl
+  where
+    go : (t : Bool) → ltb end size ≡ t → from < cond t (end + 1) end
+    go true e = omega arith
+    go false e = let m : size ≤ end = ltb-false end size e in omega arith
+
+pub not-past : (size end : ℕ) → end ≤ size → behind size end ≤ size
+not-past size end h = go (ltb end size) refl
+  where
+    go : (t : Bool) → ltb end size ≡ t → cond t (end + 1) end ≤ size
+    go true e = let m : end < size = ltb-true end size e in omega arith
+    go false e = omega arith
+
+-- ==== how long a line's text is
+
+pub legal-of : {l : List ℕ} {r : Record} → Answers l (read r) → Legal r
+legal-of (accepts m q h) = h
+
+executed-short : (a : executing.Answer) (r : Record) → Legal r → length (executedText a r) ≤ 8 + longestLine
+executed-short done r h = simp length-append (omega (arith, standard-length r h))
+executed-short skipped r h = simp length-append (omega (arith, standard-length r h))
+executed-short (executing.refused n) r h = simp length-append (omega (arith, decimal-short n))
+
+answer-short : {l : List ℕ} (a : Answer) (f : Files) → Answers l a → length (answerText a f) ≤ 8 + longestLine
+answer-short (read r) f q = executed-short (run r f .answer) r (legal-of q)
+answer-short (refused n) f q = simp length-append (omega (arith, decimal-short n))
+
+pub turn-short : {n : ℕ} {l t : List ℕ} {f g : Files} → Turn n l f t g → length t ≤ lineRoom
+unfolding lineText
+turn-short {n} {l} {t} {f} {g} u =
+    rw (u .text) (simp length-append (omega (arith, decimal-short n, answer-short (u .answer) f (u .answers))))
+
+-- ==== the loop over the lines
+
+abbrev IsFalse : Bool → Type 0
+IsFalse false = Unit {0}
+IsFalse true = ⊥
+
+-- a line is left, and room for it
+pub room-there : (size at room : ℕ) {t : Bool} → t ≡ ltb at size && leb lineRoom room → t ≡ true → (at < size) × (lineRoom ≤ room)
+room-there size at room {t} d h = go (ltb at size) (leb lineRoom room) refl refl (sym d ∙ h)
+  where
+    go : (p q : Bool) → ltb at size ≡ p → leb lineRoom room ≡ q → p && q ≡ true → (at < size) × (lineRoom ≤ room)
+    go true true i j e = (ltb-true at size i, leb-true lineRoom room j)
+    go true false i j e = absurd (subst IsFalse e tt)
+    go false q i j e = absurd (subst IsFalse e tt)
+
+-- so far: text is put, and what `some_lines` prints from here on goes behind it
+pub record Going (s : List ℕ) (from first : ℕ) (f : Files) (start : List ℕ) (at n used : ℕ) (g : Files) (out : List ℕ) : Type 0 where
+  pub text : List ℕ
+  pub puts : Puts (buffer start 0) text (buffer out used)
+  pub fits : length text ≤ length start
+  pub rest : {u : List ℕ} {e m : ℕ} {h : Files} → Some s (length start - length text) at n g u e m h → Some s (length start) from first f (text ++ u) e m h
+
+pub begins : (s : List ℕ) (from first : ℕ) (f : Files) (out : List ℕ) → Going s from first f out from first 0 f out
+begins s from first f out = record { text = []; puts = record { text = refl }; fits = omega arith; rest = λ x. rw (sub-zero (length out)) at x }
+
+module _ {s : List ℕ} {from first : ℕ} {f : Files} {start : List ℕ} {at n used : ℕ} {g : Files} {out : List ℕ} (a : Going s from first f start at n used g out) where
+  pub used-length : used ≡ length (a .text)
+  used-length = whole-front (a .puts) (a .fits) .0
+
+  -- one line more
+  pub goes-on : {h : Files} {after : List ℕ} {next : ℕ} → at < length s → lineRoom ≤ length start - used → length s ≤ listingLimit
+      → PutsTurn n (lineAt s at) g h (buffer out used) (buffer after next) → Going s from first f start (nextPlace s at) (nextNumber n) next h after
+  goes-on {h} {after} {next} i r l p =
+      let b : length (p .text) ≤ lineRoom = turn-short (p .turn) in
+      let d : length start - length (a .text ++ p .text) ≡ length start - length (a .text) - length (p .text) = simp length-append (omega arith) in
+      record {
+        text = a .text ++ p .text;
+        puts = a .puts then p .puts;
+        fits = simp length-append (omega (arith, used-length));
+        rest = λ {u} {e} {m} {h = k} x.
+            rw (append-assoc (a .text) (p .text) u) (a .rest (one-more i (omega (arith, used-length)) l (p .turn) (rw d at x)));
+      }
+
+  -- no line left, or no room for one
+  pub stops : ltb at (length s) && leb lineRoom (length start - used) ≡ false → Prints s from first f start at n used g out
+  stops e =
+      record {
+        text = a .text;
+        some = rw (append-nil (a .text)) at (a .rest (none-more (ltb at (length s)) (leb lineRoom (length start - used)) refl refl e));
+        length-of = used-length;
+        buffer = whole-front (a .puts) (a .fits) .1;
+      }
+    where
+      none-more : (p q : Bool) → ltb at (length s) ≡ p → leb lineRoom (length start - used) ≡ q → p && q ≡ false → Some s (length start - length (a .text)) at n g [] at n g
+      none-more false q i j e = ended (ltb-false at (length s) i)
+      none-more true false i j e = no-room {room = length start - length (a .text)} (ltb-true at (length s) i) (omega (arith, used-length, leb-false lineRoom (length start - used) j))
+      none-more true true i j e = absurd (subst IsFalse (sym e) tt)
+
+-- ==== a call that prints no line
+
+pub none-printed : (s : List ℕ) (from first : ℕ) (f : Files) (out : List ℕ) → ltb from (length s) && leb lineRoom (length out) ≡ false
+    → Prints s from first f out from first 0 f out
+none-printed s from first f out e = stops (begins s from first f out) (rw (sub-zero (length out)) e)
+
+pub over-limit : {s : List ℕ} {from first n : ℕ} {f : Files} {out after : List ℕ} → from < length s → lineRoom ≤ length out → listingLimit < length s
+    → Puts (buffer out 0) tooLongText (buffer after n) → Prints s from first f out (length s) first n f after
+over-limit {s} {from} {first} {n} {f} {out} {after} i r l p =
+    let k : length tooLongText ≤ length out = omega arith in
+    record {
+      text = tooLongText;
+      some = too-long {room = length out} i r l;
+      length-of = whole-front p k .0;
+      buffer = whole-front p k .1;
+    }

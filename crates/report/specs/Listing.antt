@@ -1,0 +1,122 @@
+-- Document 01, the listing program (under "Bench figures"): what it prints of a listing.
+use Prim.Native.Nat.{ℕ, zero, suc, _*_, _≤_, _<_}
+use mathlib.Core.Path.{_≡_}
+use mathlib.Core.Bool.{cond}
+use mathlib.Core.List.{List, [], _∷_, _++_}
+use lib.ListN.{length}
+use lib.Dec.{eqb}
+use Rattle.base.specs.Lists.{tab}
+use Rattle.base.specs.Text.{bytes}
+use Rattle.record.specs.Registers.{wordCount, doubleCount, predCount}
+use Rattle.record.specs.declared.Record.{Record}
+use Rattle.rules.specs.Executing.{Files, files, Place, word, double, pred, done, skipped, run}
+use Rattle.rules.specs.Executing as executing
+use Rattle.rules.specs.ExecutionLaws.{at}
+use Rattle.rules.specs.Shape.{registerText}
+use Rattle.rules.specs.StandardLine.{standard}
+use Rattle.rules.specs.Reading.{Answer, read, refused, Answers}
+use Rattle.text.specs.Digits.{decimal, hex}
+
+abbrev pub lineFeed : ℕ
+lineFeed = 10
+
+-- ==== the lines of a listing
+
+-- a last one without a line feed counts if not empty
+abbrev pub lastLine : List ℕ → List (List ℕ)
+lastLine [] = []
+lastLine (b ∷ l) = (b ∷ l) ∷ []
+
+-- Lines end at a line feed; l is what the line has so far
+unfoldable pub linesWith : List ℕ → List ℕ → List (List ℕ)
+linesWith l [] = lastLine l
+linesWith l (b ∷ s) = cond (eqb b lineFeed) (l ∷ linesWith [] s) (linesWith (l ++ (b ∷ [])) s)
+
+abbrev pub linesOf : List ℕ → List (List ℕ)
+linesOf s = linesWith [] s
+
+-- ==== what is printed of a line
+
+abbrev pub refusedText : ℕ → List ℕ
+refusedText n = bytes "refused " ++ decimal n
+
+abbrev pub executedText : executing.Answer → Record → List ℕ
+executedText done r = bytes "done " ++ standard r
+executedText skipped r = bytes "skipped " ++ standard r
+executedText (executing.refused n) r = refusedText n
+
+-- a line that was read is executed
+abbrev pub answerText : Answer → Files → List ℕ
+answerText (read r) f = executedText (run r f .answer) r
+answerText (refused n) f = refusedText n
+
+abbrev pub filesAfter : Answer → Files → Files
+filesAfter (read r) f = run r f .files
+filesAfter (refused n) f = f
+
+-- the line's number comes first, from 1 on
+unfoldable pub lineText : ℕ → Answer → Files → List ℕ
+lineText n a f = decimal n ++ bytes " " ++ answerText a f ++ (lineFeed ∷ [])
+
+-- line number n, which is l, on files f: the text t is printed, the files are g then
+pub record Turn (n : ℕ) (l : List ℕ) (f : Files) (t : List ℕ) (g : Files) : Type 0 where
+  pub answer : Answer
+  pub answers : Answers l answer
+  pub text : t ≡ lineText n answer f
+  pub files : g ≡ filesAfter answer f
+
+-- the lines one after another, the first with number n
+pub data Turns : ℕ → List (List ℕ) → Files → List ℕ → Files → Type 0 where
+  none : {n : ℕ} {f : Files} → Turns n [] f [] f
+  more : {n : ℕ} {l : List ℕ} {ls : List (List ℕ)} {f g h : Files} {t u : List ℕ} → Turn n l f t g → Turns (suc n) ls g u h → Turns n (l ∷ ls) f (t ++ u) h
+
+-- ==== the registers
+
+-- the number that is 01010101 hex
+abbrev pub ones : ℕ
+ones = 16843009
+
+-- At the start `%rN` is N times 01010101 hex, `%rdN` is N, predicates 0
+abbrev pub startValue : Place → ℕ
+startValue (word n) = n * ones
+startValue (double n) = n
+startValue (pred n) = 0
+
+unfoldable pub startFiles : Files
+startFiles = files (tab wordCount (λ n. startValue (word n))) (tab doubleCount (λ n. startValue (double n))) (tab predCount (λ n. startValue (pred n)))
+
+-- `%r` (8 hex digits, capitals), `%rd` (16), `%p`
+abbrev pub digitsOf : Place → ℕ
+digitsOf (word n) = 8
+digitsOf (double n) = 16
+digitsOf (pred n) = 1
+
+abbrev pub valueText : Place → ℕ → List ℕ
+valueText p v = registerText p ++ bytes " " ++ hex (digitsOf p) v ++ (lineFeed ∷ [])
+
+-- the registers whose value differs from the start
+unfoldable pub changeText : Place → ℕ → List ℕ
+changeText p v = cond (eqb v (startValue p)) [] (valueText p v)
+
+-- the first k registers of a file, numbers rising
+unfoldable pub changesText : (ℕ → Place) → ℕ → Files → List ℕ
+changesText file zero f = []
+changesText file (suc k) f = changesText file k f ++ changeText (file k) (at f (file k))
+
+unfoldable pub registersText : Files → List ℕ
+registersText f = changesText word wordCount f ++ changesText double doubleCount f ++ changesText pred predCount f
+
+-- ==== the whole output
+
+-- at most 65,536 bytes
+abbrev pub listingLimit : ℕ
+listingLimit = 65536
+
+abbrev pub tooLongText : List ℕ
+tooLongText = bytes "input too long" ++ (lineFeed ∷ [])
+
+pub data Output (s : List ℕ) : List ℕ → Type 0 where
+  -- more: it prints `input too long` alone
+  too-long : listingLimit < length s → Output s tooLongText
+  -- a line for each line, then the registers
+  printed : {t : List ℕ} {g : Files} → length s ≤ listingLimit → Turns 1 (linesOf s) startFiles t g → Output s (t ++ registersText g)
