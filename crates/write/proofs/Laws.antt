@@ -1,47 +1,40 @@
 -- The outcomes of `writing` one by one. Assumes nothing.
-use Prim.Native.Nat.{ℕ, zero, suc, _≤_}
+use Prim.Native.Nat.{ℕ, _≤_, _<_}
 use native.Mathlib.Omega.{arith}
-use mathlib.Core.Path.{_≡_, refl, sym, _∙_}
-use mathlib.Core.Bool.{Bool, true, false, not}
-use mathlib.Core.List.{List, []}
-use lib.ListN.{length}
-use lib.Dec.{ltb}
-use borrow.Author.Tests.{ltb-false, not-false}
+use mathlib.Core.Path.{_≡_, refl}
+use mathlib.Core.Bool.{true, false}
+use mathlib.Core.List.{List, _++_}
+use lib.ListN.{length, take, drop, length-append}
+use lib.Seq.{take-at}
+use borrow.Author.Tests.{lt-ltb, le-ltb}
 use Rattle.record.specs.Refusals.{isLegal}
 use Rattle.record.specs.declared.Record.{Record}
 use Rattle.rules.specs.StandardLine.{standard}
-use Rattle.rules.specs.LineLengths.{standard-fits}
-use Rattle.rules.specs.Writing.{written, refused, firstRefusal, front, outcome, writing}
-use Rattle.write.specs.Adds.{Adds, whole}
+use Rattle.rules.specs.LineLengths.{longestLine, standard-length}
+use Rattle.rules.specs.Writing.{written, refused, front, outcome, writing}
+use Rattle.text.specs.Buffer.{buffer, Puts, whole-front}
 
-none-applies : (p q : Bool) → firstRefusal p q ≡ 0 → (p ≡ false) × (q ≡ false)
-none-applies false false e = (refl, refl)
-none-applies true q e = absurd (omega arith)
-none-applies false true e = absurd (omega arith)
+pub ends-illegal : (x : Record) (b : List ℕ) → isLegal x ≡ false → outcome (refused 8) b ≡ writing x b
+unfolding writing
+ends-illegal x b e = rw e
 
--- x the record, b the buffer, y the text of the line that was built
-module _ (x : Record) (b : List ℕ) {y : List ℕ} (a : Adds [] (standard x) y) where
-  abbrev first : ℕ
-  first = firstRefusal (not (isLegal x)) (ltb (length b) (length y))
+-- x a legal record, ys what became of a buffer with room that its line was put into, n the next place there
+module _ (x : Record) (legal : isLegal x ≡ true) {bs ys : List ℕ} {n : ℕ} (room : longestLine ≤ length bs) (a : Puts (buffer bs 0) (standard x) (buffer ys n)) where
+  there : (n ≡ length (standard x)) × (ys ≡ standard x ++ drop (length (standard x)) bs)
+  there = whole-front a (omega (arith, standard-length x legal))
 
-  -- a line that was cut is one of a record that is not legal
-  first-same : first ≡ firstRefusal (not (isLegal x)) (ltb (length b) (length (standard x)))
-  first-same = go (isLegal x) refl
-    where
-      go : (t : Bool) → isLegal x ≡ t → firstRefusal (not t) (ltb (length b) (length y)) ≡ firstRefusal (not t) (ltb (length b) (length (standard x)))
-      go true e = rw (whole a (standard-fits x e))
-      go false e = refl
+  -- no more bytes than there are
+  pub fits : n ≤ length ys
+  fits = rw (there .0, there .1) (simp length-append (omega arith))
 
-  pub ends-refused : (n : ℕ) → n ≡ first → (n ≡ 0 → ⊥) → outcome (refused n) b ≡ writing x b
+  -- the line, whole
+  line : take n ys ≡ standard x
+  line = rw (there .0, there .1) (take-at (standard x) _ _ refl)
+
+  pub ends-short : (b : List ℕ) → length b < n → outcome (refused 9) b ≡ writing x b
   unfolding writing
-  ends-refused zero e h = absurd (h refl)
-  ends-refused (suc n) e h = rw (← first-same, ← e)
+  ends-short b h = rw (legal, lt-ltb (length b) (length (standard x)) (omega (arith, there .0)))
 
-  pub room-there : (n : ℕ) → n ≡ first → n ≡ 0 → length y ≤ length b
-  room-there n e z = ltb-false (length b) (length y) (none-applies (not (isLegal x)) (ltb (length b) (length y)) (sym e ∙ z) .1)
-
-  pub ends-written : {u : List ℕ} (n : ℕ) → n ≡ first → n ≡ 0 → u ≡ front y b → outcome (written (length y)) u ≡ writing x b
+  pub ends-written : (b : List ℕ) {u : List ℕ} → n ≤ length b → u ≡ front (take n ys) b → outcome (written n) u ≡ writing x b
   unfolding writing
-  ends-written n e z h =
-      let legal : isLegal x ≡ true = not-false (isLegal x) (none-applies (not (isLegal x)) (ltb (length b) (length y)) (sym e ∙ z) .0) in
-      rw (← first-same, ← e, z, h, whole a (standard-fits x legal))
+  ends-written b {u} h e = rw (legal, le-ltb (length b) (length (standard x)) (omega (arith, there .0)), e, line, there .0)

@@ -1,4 +1,4 @@
-// Writes a record as its standard line: the line is built by value, piece by piece, and copied out once.
+// Writes a record as its standard line: the line is built piece by piece in a local buffer, and copied out once.
 use record::Arith;
 use record::BoolOp;
 use record::Choice;
@@ -34,17 +34,17 @@ ghost use mathlib.Core.Path.{_≡_};
 ghost use mathlib.Core.Bool.{cond};
 ghost use mathlib.Core.List.{[], _∷_, _++_};
 ghost use Prim.Native.Nat.{_≤_};
-ghost use lib.ListN.{length, take};
+ghost use lib.ListN.{length};
 ghost use Rattle.base.specs.Text.{bytes};
-ghost use Rattle.record.specs.Operands.{fullMask};
 ghost use Rattle.rules.specs.Executing.{operandPlace, double};
 ghost use Rattle.record.specs.declared.CmpOp.the-variants.{Unsigned, Float};
 ghost use Rattle.record.specs.declared.Instruction.the-variants.{Arithmetic, Vset, VsetLanes, Set, Setp, Selp, Slct};
 ghost use Rattle.rules.specs.Shape.{bare, digit, numberText, registerText, dotted, headText, operandText};
 ghost use Rattle.rules.specs.Names.{videoTypeName, setTypeName, typeName, sixName, cmpName, boolName, op2Name, arithName, lanesName, when, formOp2, combinationNames, headNames, selectorName, laneLetter, maskName, digitsName};
 ghost use Rattle.rules.specs.StandardLine.{r, p, selectedTree, formTree, formLast, sameMask, sameDigits, maskTree, digitsTree, conditionTree, combinationLast, destinationTree, scalarTrees, lanesTrees, sourceTrees, choiceTrees, operandTrees, guardPart, further, operandsText, standard};
-ghost use Rattle.rules.specs.Writing.{firstRefusal, front, outcome, writing};
-ghost use Rattle.write.specs.Adds.{room, textOf, Adds, choiceText};
+ghost use Rattle.rules.specs.Writing.{front, outcome, writing};
+ghost use Rattle.text.specs.Buffer.{buffer, Puts};
+ghost use Rattle.write.specs.Pieces.{choiceText};
 ghost use Rattle.write.specs.Answers.{answerOf};
 
 // The length of the line, or document 01's number of the refusal.
@@ -53,79 +53,49 @@ pub enum Written {
     Refused(u8),
 }
 
-// As many bytes as a line may have.
-const ROOM: usize = 160;
+// Enough for the standard line of a legal record: none has more than 68 bytes.
+const ROOM: usize = 72;
 
 // The refusals of writing.
 const NOT_LEGAL: u8 = 8;
 
 const TOO_SHORT: u8 = 9;
 
-// ---- the line under construction; where it is full it stays as it is, so that no piece asks for room
+// ---- bytes, put into a lent buffer from a place on; what has no room is left out, so that no piece asks for any
 
-struct Line {
-    bytes: [u8; 160],
-    len: usize,
+fn put2(out: &mut [u8], at: usize, a: u8, b: u8) -> usize
+    ensures { λ m. ⌜ Puts (buffer (now (out .entry)) at) (a ∷ b ∷ []) (buffer (now (out .exit)) m) ⌝ }
+{
+    let at = text::push(out, at, a);
+    text::push(out, at, b)
 }
 
-fn empty() -> Line
-    ensures { λ m. ⌜ textOf m ≡ [] ⌝ }
+fn put3(out: &mut [u8], at: usize, a: u8, b: u8, c: u8) -> usize
+    ensures { λ m. ⌜ Puts (buffer (now (out .entry)) at) (a ∷ b ∷ c ∷ []) (buffer (now (out .exit)) m) ⌝ }
 {
-    Line {
-        bytes: [0u8; 160],
-        len: 0,
-    }
+    let at = put2(out, at, a, b);
+    text::push(out, at, c)
 }
 
-// Adds nothing.
-fn keep(l: Line) -> Line
-    ensures { λ m. ⌜ Adds (textOf l) [] (textOf m) ⌝ }
+fn put4(out: &mut [u8], at: usize, a: u8, b: u8, c: u8, d: u8) -> usize
+    ensures { λ m. ⌜ Puts (buffer (now (out .entry)) at) (a ∷ b ∷ c ∷ d ∷ []) (buffer (now (out .exit)) m) ⌝ }
 {
-    l
+    let at = put2(out, at, a, b);
+    put2(out, at, c, d)
 }
 
-fn push(l: Line, b: u8) -> Line
-    ensures { λ m. ⌜ Adds (textOf l) (b ∷ []) (textOf m) ⌝ }
+fn put5(out: &mut [u8], at: usize, a: u8, b: u8, c: u8, d: u8, e: u8) -> usize
+    ensures { λ m. ⌜ Puts (buffer (now (out .entry)) at) (a ∷ b ∷ c ∷ d ∷ e ∷ []) (buffer (now (out .exit)) m) ⌝ }
 {
-    let at = l.len;
-    if ROOM <= at {
-        return l;
-    }
-    let mut next = l;
-    next.bytes[at] = b;
-    next.len = at + 1;
-    next
-}
-
-fn put2(l: Line, a: u8, b: u8) -> Line
-    ensures { λ m. ⌜ Adds (textOf l) (a ∷ b ∷ []) (textOf m) ⌝ }
-{
-    push(push(l, a), b)
-}
-
-fn put3(l: Line, a: u8, b: u8, c: u8) -> Line
-    ensures { λ m. ⌜ Adds (textOf l) (a ∷ b ∷ c ∷ []) (textOf m) ⌝ }
-{
-    push(put2(l, a, b), c)
-}
-
-fn put4(l: Line, a: u8, b: u8, c: u8, d: u8) -> Line
-    ensures { λ m. ⌜ Adds (textOf l) (a ∷ b ∷ c ∷ d ∷ []) (textOf m) ⌝ }
-{
-    put2(put2(l, a, b), c, d)
-}
-
-fn put5(l: Line, a: u8, b: u8, c: u8, d: u8, e: u8) -> Line
-    ensures { λ m. ⌜ Adds (textOf l) (a ∷ b ∷ c ∷ d ∷ e ∷ []) (textOf m) ⌝ }
-{
-    push(put4(l, a, b, c, d), e)
+    let at = put4(out, at, a, b, c, d);
+    text::push(out, at, e)
 }
 
 // The byte, if it is wanted.
-fn push_if(l: Line, t: bool, b: u8) -> Line
-    ensures { λ m. ⌜ Adds (textOf l) (cond t (b ∷ []) []) (textOf m) ⌝ }
+fn push_if(out: &mut [u8], at: usize, t: bool, b: u8) -> usize
+    ensures { λ m. ⌜ Puts (buffer (now (out .entry)) at) (cond t (b ∷ []) []) (buffer (now (out .exit)) m) ⌝ }
 {
-    if t { push(l, b) } else { keep(l) }
+    if t { text::push(out, at, b) } else { at }
 }
 
 // ---- registers
@@ -136,281 +106,307 @@ fn digit(n: u16) -> u8
     (n % 10) as u8 + b'0'
 }
 
-fn put_number(l: Line, n: u16) -> Line
-    ensures { λ m. ⌜ Adds (textOf l) (numberText n) (textOf m) ⌝ }
+fn put_number(out: &mut [u8], at: usize, n: u16) -> usize
+    ensures { λ m. ⌜ Puts (buffer (now (out .entry)) at) (numberText n) (buffer (now (out .exit)) m) ⌝ }
 {
     if n < 10 {
-        return push(l, digit(n));
+        return text::push(out, at, digit(n));
     }
     if n < 100 {
-        return put2(l, digit(n / 10), digit(n));
+        return put2(out, at, digit(n / 10), digit(n));
     }
-    put3(l, digit(n / 100), digit(n / 10), digit(n))
+    put3(out, at, digit(n / 100), digit(n / 10), digit(n))
 }
 
-fn put_word(l: Line, w: Word) -> Line
-    ensures { λ m. ⌜ Adds (textOf l) (registerText (r w)) (textOf m) ⌝ }
+fn put_word(out: &mut [u8], at: usize, w: Word) -> usize
+    ensures { λ m. ⌜ Puts (buffer (now (out .entry)) at) (registerText (r w)) (buffer (now (out .exit)) m) ⌝ }
 {
-    put_number(put2(l, b'%', b'r'), w.0)
+    let at = put2(out, at, b'%', b'r');
+    put_number(out, at, w.0)
 }
 
-fn put_double(l: Line, d: Double) -> Line
-    ensures { λ m. ⌜ Adds (textOf l) (registerText (double (d .0))) (textOf m) ⌝ }
+fn put_double(out: &mut [u8], at: usize, d: Double) -> usize
+    ensures { λ m. ⌜ Puts (buffer (now (out .entry)) at) (registerText (double (d .0))) (buffer (now (out .exit)) m) ⌝ }
 {
-    put_number(put3(l, b'%', b'r', b'd'), d.0)
+    let at = put3(out, at, b'%', b'r', b'd');
+    put_number(out, at, d.0)
 }
 
-fn put_pred(l: Line, q: Pred) -> Line
-    ensures { λ m. ⌜ Adds (textOf l) (registerText (p q)) (textOf m) ⌝ }
+fn put_pred(out: &mut [u8], at: usize, q: Pred) -> usize
+    ensures { λ m. ⌜ Puts (buffer (now (out .entry)) at) (registerText (p q)) (buffer (now (out .exit)) m) ⌝ }
 {
-    put_number(put2(l, b'%', b'p'), q.0)
+    let at = put2(out, at, b'%', b'p');
+    put_number(out, at, q.0)
 }
 
-fn put_operand(l: Line, o: Operand) -> Line
-    ensures { λ m. ⌜ Adds (textOf l) (registerText (operandPlace o)) (textOf m) ⌝ }
+fn put_operand(out: &mut [u8], at: usize, o: Operand) -> usize
+    ensures { λ m. ⌜ Puts (buffer (now (out .entry)) at) (registerText (operandPlace o)) (buffer (now (out .exit)) m) ⌝ }
 {
     match o {
-        Operand::Word(w) => put_word(l, w),
-        Operand::Double(d) => put_double(l, d),
+        Operand::Word(w) => put_word(out, at, w),
+        Operand::Double(d) => put_double(out, at, d),
     }
 }
 
 // ---- modifiers, each with its `.`
 
-fn put_video_type(l: Line, t: VideoType) -> Line
-    ensures { λ m. ⌜ Adds (textOf l) (bytes "." ++ videoTypeName t) (textOf m) ⌝ }
+fn put_video_type(out: &mut [u8], at: usize, t: VideoType) -> usize
+    ensures { λ m. ⌜ Puts (buffer (now (out .entry)) at) (bytes "." ++ videoTypeName t) (buffer (now (out .exit)) m) ⌝ }
 {
     match t {
-        VideoType::U32 => put4(l, b'.', b'u', b'3', b'2'),
-        VideoType::S32 => put4(l, b'.', b's', b'3', b'2'),
+        VideoType::U32 => put4(out, at, b'.', b'u', b'3', b'2'),
+        VideoType::S32 => put4(out, at, b'.', b's', b'3', b'2'),
     }
 }
 
-fn put_set_type(l: Line, t: SetType) -> Line
-    ensures { λ m. ⌜ Adds (textOf l) (bytes "." ++ setTypeName t) (textOf m) ⌝ }
+fn put_set_type(out: &mut [u8], at: usize, t: SetType) -> usize
+    ensures { λ m. ⌜ Puts (buffer (now (out .entry)) at) (bytes "." ++ setTypeName t) (buffer (now (out .exit)) m) ⌝ }
 {
     match t {
-        SetType::U32 => put4(l, b'.', b'u', b'3', b'2'),
-        SetType::S32 => put4(l, b'.', b's', b'3', b'2'),
-        SetType::F32 => put4(l, b'.', b'f', b'3', b'2'),
+        SetType::U32 => put4(out, at, b'.', b'u', b'3', b'2'),
+        SetType::S32 => put4(out, at, b'.', b's', b'3', b'2'),
+        SetType::F32 => put4(out, at, b'.', b'f', b'3', b'2'),
     }
 }
 
-fn put_type(l: Line, t: DataType) -> Line
-    ensures { λ m. ⌜ Adds (textOf l) (bytes "." ++ typeName t) (textOf m) ⌝ }
+fn put_type(out: &mut [u8], at: usize, t: DataType) -> usize
+    ensures { λ m. ⌜ Puts (buffer (now (out .entry)) at) (bytes "." ++ typeName t) (buffer (now (out .exit)) m) ⌝ }
 {
     match t {
-        DataType::B32 => put4(l, b'.', b'b', b'3', b'2'),
-        DataType::B64 => put4(l, b'.', b'b', b'6', b'4'),
-        DataType::U32 => put4(l, b'.', b'u', b'3', b'2'),
-        DataType::U64 => put4(l, b'.', b'u', b'6', b'4'),
-        DataType::S32 => put4(l, b'.', b's', b'3', b'2'),
-        DataType::S64 => put4(l, b'.', b's', b'6', b'4'),
-        DataType::F32 => put4(l, b'.', b'f', b'3', b'2'),
-        DataType::F64 => put4(l, b'.', b'f', b'6', b'4'),
+        DataType::B32 => put4(out, at, b'.', b'b', b'3', b'2'),
+        DataType::B64 => put4(out, at, b'.', b'b', b'6', b'4'),
+        DataType::U32 => put4(out, at, b'.', b'u', b'3', b'2'),
+        DataType::U64 => put4(out, at, b'.', b'u', b'6', b'4'),
+        DataType::S32 => put4(out, at, b'.', b's', b'3', b'2'),
+        DataType::S64 => put4(out, at, b'.', b's', b'6', b'4'),
+        DataType::F32 => put4(out, at, b'.', b'f', b'3', b'2'),
+        DataType::F64 => put4(out, at, b'.', b'f', b'6', b'4'),
     }
 }
 
-fn put_six(l: Line, c: Cmp6) -> Line
-    ensures { λ m. ⌜ Adds (textOf l) (bytes "." ++ sixName c) (textOf m) ⌝ }
+fn put_six(out: &mut [u8], at: usize, c: Cmp6) -> usize
+    ensures { λ m. ⌜ Puts (buffer (now (out .entry)) at) (bytes "." ++ sixName c) (buffer (now (out .exit)) m) ⌝ }
 {
     match c {
-        Cmp6::Eq => put3(l, b'.', b'e', b'q'),
-        Cmp6::Ne => put3(l, b'.', b'n', b'e'),
-        Cmp6::Lt => put3(l, b'.', b'l', b't'),
-        Cmp6::Le => put3(l, b'.', b'l', b'e'),
-        Cmp6::Gt => put3(l, b'.', b'g', b't'),
-        Cmp6::Ge => put3(l, b'.', b'g', b'e'),
+        Cmp6::Eq => put3(out, at, b'.', b'e', b'q'),
+        Cmp6::Ne => put3(out, at, b'.', b'n', b'e'),
+        Cmp6::Lt => put3(out, at, b'.', b'l', b't'),
+        Cmp6::Le => put3(out, at, b'.', b'l', b'e'),
+        Cmp6::Gt => put3(out, at, b'.', b'g', b't'),
+        Cmp6::Ge => put3(out, at, b'.', b'g', b'e'),
     }
 }
 
-fn put_unsigned(l: Line, c: CmpU) -> Line
-    ensures { λ m. ⌜ Adds (textOf l) (bytes "." ++ cmpName (Unsigned c)) (textOf m) ⌝ }
+fn put_unsigned(out: &mut [u8], at: usize, c: CmpU) -> usize
+    ensures { λ m. ⌜ Puts (buffer (now (out .entry)) at) (bytes "." ++ cmpName (Unsigned c)) (buffer (now (out .exit)) m) ⌝ }
 {
     match c {
-        CmpU::Lo => put3(l, b'.', b'l', b'o'),
-        CmpU::Ls => put3(l, b'.', b'l', b's'),
-        CmpU::Hi => put3(l, b'.', b'h', b'i'),
-        CmpU::Hs => put3(l, b'.', b'h', b's'),
+        CmpU::Lo => put3(out, at, b'.', b'l', b'o'),
+        CmpU::Ls => put3(out, at, b'.', b'l', b's'),
+        CmpU::Hi => put3(out, at, b'.', b'h', b'i'),
+        CmpU::Hs => put3(out, at, b'.', b'h', b's'),
     }
 }
 
-fn put_float(l: Line, c: CmpF) -> Line
-    ensures { λ m. ⌜ Adds (textOf l) (bytes "." ++ cmpName (Float c)) (textOf m) ⌝ }
+fn put_float(out: &mut [u8], at: usize, c: CmpF) -> usize
+    ensures { λ m. ⌜ Puts (buffer (now (out .entry)) at) (bytes "." ++ cmpName (Float c)) (buffer (now (out .exit)) m) ⌝ }
 {
     match c {
-        CmpF::Equ => put4(l, b'.', b'e', b'q', b'u'),
-        CmpF::Neu => put4(l, b'.', b'n', b'e', b'u'),
-        CmpF::Ltu => put4(l, b'.', b'l', b't', b'u'),
-        CmpF::Leu => put4(l, b'.', b'l', b'e', b'u'),
-        CmpF::Gtu => put4(l, b'.', b'g', b't', b'u'),
-        CmpF::Geu => put4(l, b'.', b'g', b'e', b'u'),
-        CmpF::Num => put4(l, b'.', b'n', b'u', b'm'),
-        CmpF::Nan => put4(l, b'.', b'n', b'a', b'n'),
+        CmpF::Equ => put4(out, at, b'.', b'e', b'q', b'u'),
+        CmpF::Neu => put4(out, at, b'.', b'n', b'e', b'u'),
+        CmpF::Ltu => put4(out, at, b'.', b'l', b't', b'u'),
+        CmpF::Leu => put4(out, at, b'.', b'l', b'e', b'u'),
+        CmpF::Gtu => put4(out, at, b'.', b'g', b't', b'u'),
+        CmpF::Geu => put4(out, at, b'.', b'g', b'e', b'u'),
+        CmpF::Num => put4(out, at, b'.', b'n', b'u', b'm'),
+        CmpF::Nan => put4(out, at, b'.', b'n', b'a', b'n'),
     }
 }
 
-fn put_cmp(l: Line, c: CmpOp) -> Line
-    ensures { λ m. ⌜ Adds (textOf l) (bytes "." ++ cmpName c) (textOf m) ⌝ }
+fn put_cmp(out: &mut [u8], at: usize, c: CmpOp) -> usize
+    ensures { λ m. ⌜ Puts (buffer (now (out .entry)) at) (bytes "." ++ cmpName c) (buffer (now (out .exit)) m) ⌝ }
 {
     match c {
-        CmpOp::Six(c) => put_six(l, c),
-        CmpOp::Unsigned(c) => put_unsigned(l, c),
-        CmpOp::Float(c) => put_float(l, c),
+        CmpOp::Six(c) => put_six(out, at, c),
+        CmpOp::Unsigned(c) => put_unsigned(out, at, c),
+        CmpOp::Float(c) => put_float(out, at, c),
     }
 }
 
-fn put_bool_op(l: Line, op: BoolOp) -> Line
-    ensures { λ m. ⌜ Adds (textOf l) (bytes "." ++ boolName op) (textOf m) ⌝ }
+fn put_bool_op(out: &mut [u8], at: usize, op: BoolOp) -> usize
+    ensures { λ m. ⌜ Puts (buffer (now (out .entry)) at) (bytes "." ++ boolName op) (buffer (now (out .exit)) m) ⌝ }
 {
     match op {
-        BoolOp::And => put4(l, b'.', b'a', b'n', b'd'),
-        BoolOp::Or => put3(l, b'.', b'o', b'r'),
-        BoolOp::Xor => put4(l, b'.', b'x', b'o', b'r'),
+        BoolOp::And => put4(out, at, b'.', b'a', b'n', b'd'),
+        BoolOp::Or => put3(out, at, b'.', b'o', b'r'),
+        BoolOp::Xor => put4(out, at, b'.', b'x', b'o', b'r'),
     }
 }
 
-fn put_op2(l: Line, op: Op2) -> Line
-    ensures { λ m. ⌜ Adds (textOf l) (bytes "." ++ op2Name op) (textOf m) ⌝ }
+fn put_op2(out: &mut [u8], at: usize, op: Op2) -> usize
+    ensures { λ m. ⌜ Puts (buffer (now (out .entry)) at) (bytes "." ++ op2Name op) (buffer (now (out .exit)) m) ⌝ }
 {
     match op {
-        Op2::Add => put4(l, b'.', b'a', b'd', b'd'),
-        Op2::Min => put4(l, b'.', b'm', b'i', b'n'),
-        Op2::Max => put4(l, b'.', b'm', b'a', b'x'),
+        Op2::Add => put4(out, at, b'.', b'a', b'd', b'd'),
+        Op2::Min => put4(out, at, b'.', b'm', b'i', b'n'),
+        Op2::Max => put4(out, at, b'.', b'm', b'a', b'x'),
     }
 }
 
 // `.sat`, `.ftz` or `.add`, where the record has it.
-fn put_when(l: Line, t: bool, a: u8, b: u8, c: u8) -> Line
-    ensures { λ m. ⌜ Adds (textOf l) (dotted (when t (a ∷ b ∷ c ∷ []))) (textOf m) ⌝ }
+fn put_when(out: &mut [u8], at: usize, t: bool, a: u8, b: u8, c: u8) -> usize
+    ensures { λ m. ⌜ Puts (buffer (now (out .entry)) at) (dotted (when t (a ∷ b ∷ c ∷ []))) (buffer (now (out .exit)) m) ⌝ }
 {
-    if t { put4(l, b'.', a, b, c) } else { keep(l) }
+    if t { put4(out, at, b'.', a, b, c) } else { at }
 }
 
-fn put_form_op2(l: Line, f: Form) -> Line
-    ensures { λ m. ⌜ Adds (textOf l) (dotted (formOp2 f)) (textOf m) ⌝ }
+fn put_form_op2(out: &mut [u8], at: usize, f: Form) -> usize
+    ensures { λ m. ⌜ Puts (buffer (now (out .entry)) at) (dotted (formOp2 f)) (buffer (now (out .exit)) m) ⌝ }
 {
     match f {
-        Form::Plain { .. } => keep(l),
-        Form::Merge { .. } => keep(l),
-        Form::Combine { op, .. } => put_op2(l, op),
+        Form::Plain { .. } => at,
+        Form::Merge { .. } => at,
+        Form::Combine { op, .. } => put_op2(out, at, op),
     }
 }
 
-fn put_combination_name(l: Line, c: Combination) -> Line
-    ensures { λ m. ⌜ Adds (textOf l) (dotted (combinationNames c)) (textOf m) ⌝ }
+fn put_combination_name(out: &mut [u8], at: usize, c: Combination) -> usize
+    ensures { λ m. ⌜ Puts (buffer (now (out .entry)) at) (dotted (combinationNames c)) (buffer (now (out .exit)) m) ⌝ }
 {
     match c {
-        Combination::Alone => keep(l),
-        Combination::With(op, _) => put_bool_op(l, op),
+        Combination::Alone => at,
+        Combination::With(op, _) => put_bool_op(out, at, op),
     }
 }
 
 // ---- heads
 
-fn put_arith(l: Line, op: Arith) -> Line
-    ensures { λ m. ⌜ Adds (textOf l) (arithName op) (textOf m) ⌝ }
+fn put_arith(out: &mut [u8], at: usize, op: Arith) -> usize
+    ensures { λ m. ⌜ Puts (buffer (now (out .entry)) at) (arithName op) (buffer (now (out .exit)) m) ⌝ }
 {
     match op {
-        Arith::Vadd => put4(l, b'v', b'a', b'd', b'd'),
-        Arith::Vsub => put4(l, b'v', b's', b'u', b'b'),
-        Arith::Vabsdiff => put4(put4(l, b'v', b'a', b'b', b's'), b'd', b'i', b'f', b'f'),
-        Arith::Vmin => put4(l, b'v', b'm', b'i', b'n'),
-        Arith::Vmax => put4(l, b'v', b'm', b'a', b'x'),
+        Arith::Vadd => put4(out, at, b'v', b'a', b'd', b'd'),
+        Arith::Vsub => put4(out, at, b'v', b's', b'u', b'b'),
+        Arith::Vabsdiff => {
+            let at = put4(out, at, b'v', b'a', b'b', b's');
+            put4(out, at, b'd', b'i', b'f', b'f')
+        },
+        Arith::Vmin => put4(out, at, b'v', b'm', b'i', b'n'),
+        Arith::Vmax => put4(out, at, b'v', b'm', b'a', b'x'),
     }
 }
 
-fn put_arithmetic_head(l: Line, op: Arith, dtype: VideoType, sat: bool, s: Scalar) -> Line
-    ensures { λ m. ⌜ Adds (textOf l) (headText (headNames (Arithmetic op dtype sat s))) (textOf m) ⌝ }
+fn put_arithmetic_head(
+    out: &mut [u8],
+    at: usize,
+    op: Arith,
+    dtype: VideoType,
+    sat: bool,
+    s: Scalar,
+) -> usize
+    ensures { λ m. ⌜ Puts (buffer (now (out .entry)) at) (headText (headNames (Arithmetic op dtype sat s))) (buffer (now (out .exit)) m) ⌝ }
 {
     let atype = s.atype;
     let btype = s.btype;
     let form = s.form;
-    let l1 = put_video_type(put_arith(l, op), dtype);
-    let l2 = put_video_type(put_video_type(l1, atype), btype);
-    put_form_op2(put_when(l2, sat, b's', b'a', b't'), form)
+    let at = put_arith(out, at, op);
+    let at = put_video_type(out, at, dtype);
+    let at = put_video_type(out, at, atype);
+    let at = put_video_type(out, at, btype);
+    let at = put_when(out, at, sat, b's', b'a', b't');
+    put_form_op2(out, at, form)
 }
 
-fn put_vset_head(l: Line, cmp: Cmp6, s: Scalar) -> Line
-    ensures { λ m. ⌜ Adds (textOf l) (headText (headNames (Vset cmp s))) (textOf m) ⌝ }
+fn put_vset_head(out: &mut [u8], at: usize, cmp: Cmp6, s: Scalar) -> usize
+    ensures { λ m. ⌜ Puts (buffer (now (out .entry)) at) (headText (headNames (Vset cmp s))) (buffer (now (out .exit)) m) ⌝ }
 {
     let atype = s.atype;
     let btype = s.btype;
     let form = s.form;
-    let l1 = put4(l, b'v', b's', b'e', b't');
-    let l2 = put_video_type(put_video_type(l1, atype), btype);
-    put_form_op2(put_six(l2, cmp), form)
+    let at = put4(out, at, b'v', b's', b'e', b't');
+    let at = put_video_type(out, at, atype);
+    let at = put_video_type(out, at, btype);
+    let at = put_six(out, at, cmp);
+    put_form_op2(out, at, form)
 }
 
-fn put_lanes_opcode(l: Line, w: LaneWidth) -> Line
-    ensures { λ m. ⌜ Adds (textOf l) (lanesName w) (textOf m) ⌝ }
+fn put_lanes_opcode(out: &mut [u8], at: usize, w: LaneWidth) -> usize
+    ensures { λ m. ⌜ Puts (buffer (now (out .entry)) at) (lanesName w) (buffer (now (out .exit)) m) ⌝ }
 {
     match w {
-        LaneWidth::Half => put5(l, b'v', b's', b'e', b't', b'2'),
-        LaneWidth::Byte => put5(l, b'v', b's', b'e', b't', b'4'),
+        LaneWidth::Half => put5(out, at, b'v', b's', b'e', b't', b'2'),
+        LaneWidth::Byte => put5(out, at, b'v', b's', b'e', b't', b'4'),
     }
 }
 
-fn put_lanes_head(l: Line, cmp: Cmp6, s: Lanes) -> Line
-    ensures { λ m. ⌜ Adds (textOf l) (headText (headNames (VsetLanes cmp s))) (textOf m) ⌝ }
+fn put_lanes_head(out: &mut [u8], at: usize, cmp: Cmp6, s: Lanes) -> usize
+    ensures { λ m. ⌜ Puts (buffer (now (out .entry)) at) (headText (headNames (VsetLanes cmp s))) (buffer (now (out .exit)) m) ⌝ }
 {
     let width = s.width;
     let atype = s.atype;
     let btype = s.btype;
-    let l1 = put_lanes_opcode(l, width);
-    let l2 = put_video_type(put_video_type(l1, atype), btype);
-    put_when(put_six(l2, cmp), s.add, b'a', b'd', b'd')
+    let at = put_lanes_opcode(out, at, width);
+    let at = put_video_type(out, at, atype);
+    let at = put_video_type(out, at, btype);
+    let at = put_six(out, at, cmp);
+    put_when(out, at, s.add, b'a', b'd', b'd')
 }
 
-fn put_set_head(l: Line, dtype: SetType, d: Word, s: Comparison) -> Line
-    ensures { λ m. ⌜ Adds (textOf l) (headText (headNames (Set dtype d s))) (textOf m) ⌝ }
+fn put_set_head(out: &mut [u8], at: usize, dtype: SetType, d: Word, s: Comparison) -> usize
+    ensures { λ m. ⌜ Puts (buffer (now (out .entry)) at) (headText (headNames (Set dtype d s))) (buffer (now (out .exit)) m) ⌝ }
 {
     let cmp = s.cmp;
     let combination = s.combination;
     let stype = s.stype;
-    let l1 = put_cmp(put3(l, b's', b'e', b't'), cmp);
-    let l2 = put_combination_name(l1, combination);
-    let l3 = put_when(l2, s.ftz, b'f', b't', b'z');
-    put_type(put_set_type(l3, dtype), stype)
+    let at = put3(out, at, b's', b'e', b't');
+    let at = put_cmp(out, at, cmp);
+    let at = put_combination_name(out, at, combination);
+    let at = put_when(out, at, s.ftz, b'f', b't', b'z');
+    let at = put_set_type(out, at, dtype);
+    put_type(out, at, stype)
 }
 
-fn put_setp_head(l: Line, d: Destination, s: Comparison) -> Line
-    ensures { λ m. ⌜ Adds (textOf l) (headText (headNames (Setp d s))) (textOf m) ⌝ }
+fn put_setp_head(out: &mut [u8], at: usize, d: Destination, s: Comparison) -> usize
+    ensures { λ m. ⌜ Puts (buffer (now (out .entry)) at) (headText (headNames (Setp d s))) (buffer (now (out .exit)) m) ⌝ }
 {
     let cmp = s.cmp;
     let combination = s.combination;
     let stype = s.stype;
-    let l1 = put_cmp(put4(l, b's', b'e', b't', b'p'), cmp);
-    let l2 = put_combination_name(l1, combination);
-    put_type(put_when(l2, s.ftz, b'f', b't', b'z'), stype)
+    let at = put4(out, at, b's', b'e', b't', b'p');
+    let at = put_cmp(out, at, cmp);
+    let at = put_combination_name(out, at, combination);
+    let at = put_when(out, at, s.ftz, b'f', b't', b'z');
+    put_type(out, at, stype)
 }
 
-fn put_selp_head(l: Line, s: Choice, c: Pred) -> Line
-    ensures { λ m. ⌜ Adds (textOf l) (headText (headNames (Selp s c))) (textOf m) ⌝ }
+fn put_selp_head(out: &mut [u8], at: usize, s: Choice, c: Pred) -> usize
+    ensures { λ m. ⌜ Puts (buffer (now (out .entry)) at) (headText (headNames (Selp s c))) (buffer (now (out .exit)) m) ⌝ }
 {
     let dtype = s.dtype;
-    put_type(put4(l, b's', b'e', b'l', b'p'), dtype)
+    let at = put4(out, at, b's', b'e', b'l', b'p');
+    put_type(out, at, dtype)
 }
 
-fn put_slct_head(l: Line, ctype: SlctType, s: Choice, c: Word) -> Line
-    ensures { λ m. ⌜ Adds (textOf l) (headText (headNames (Slct ctype s c))) (textOf m) ⌝ }
+fn put_slct_head(out: &mut [u8], at: usize, ctype: SlctType, s: Choice, c: Word) -> usize
+    ensures { λ m. ⌜ Puts (buffer (now (out .entry)) at) (headText (headNames (Slct ctype s c))) (buffer (now (out .exit)) m) ⌝ }
 {
     let dtype = s.dtype;
-    let l1 = put4(l, b's', b'l', b'c', b't');
+    let at = put4(out, at, b's', b'l', b'c', b't');
     match ctype {
-        SlctType::S32 => put4(put_type(l1, dtype), b'.', b's', b'3', b'2'),
-        SlctType::F32 { ftz } => put4(
-            put_type(put_when(l1, ftz, b'f', b't', b'z'), dtype),
-            b'.',
-            b'f',
-            b'3',
-            b'2',
-        ),
+        SlctType::S32 => {
+            let at = put_type(out, at, dtype);
+            put4(out, at, b'.', b's', b'3', b'2')
+        },
+        SlctType::F32 { ftz } => {
+            let at = put_when(out, at, ftz, b'f', b't', b'z');
+            let at = put_type(out, at, dtype);
+            put4(out, at, b'.', b'f', b'3', b'2')
+        },
     }
 }
 
-fn put_head(l: Line, i: Instruction) -> Line
-    ensures { λ m. ⌜ Adds (textOf l) (headText (headNames i)) (textOf m) ⌝ }
+fn put_head(out: &mut [u8], at: usize, i: Instruction) -> usize
+    ensures { λ m. ⌜ Puts (buffer (now (out .entry)) at) (headText (headNames i)) (buffer (now (out .exit)) m) ⌝ }
 {
     match i {
         Instruction::Arithmetic {
@@ -418,86 +414,97 @@ fn put_head(l: Line, i: Instruction) -> Line
             dtype,
             sat,
             scalar,
-        } => put_arithmetic_head(l, op, dtype, sat, scalar),
-        Instruction::Vset { cmp, scalar } => put_vset_head(l, cmp, scalar),
-        Instruction::VsetLanes { cmp, lanes } => put_lanes_head(l, cmp, lanes),
+        } => put_arithmetic_head(out, at, op, dtype, sat, scalar),
+        Instruction::Vset { cmp, scalar } => put_vset_head(out, at, cmp, scalar),
+        Instruction::VsetLanes { cmp, lanes } => put_lanes_head(out, at, cmp, lanes),
         Instruction::Set {
             dtype,
             d,
             comparison,
-        } => put_set_head(l, dtype, d, comparison),
-        Instruction::Setp { d, comparison } => put_setp_head(l, d, comparison),
-        Instruction::Selp { choice, c } => put_selp_head(l, choice, c),
-        Instruction::Slct { ctype, choice, c } => put_slct_head(l, ctype, choice, c),
+        } => put_set_head(out, at, dtype, d, comparison),
+        Instruction::Setp { d, comparison } => put_setp_head(out, at, d, comparison),
+        Instruction::Selp { choice, c } => put_selp_head(out, at, choice, c),
+        Instruction::Slct { ctype, choice, c } => put_slct_head(out, at, ctype, choice, c),
     }
 }
 
 // ---- operands of scalar video
 
-fn put_selector(l: Line, s: Selector) -> Line
-    ensures { λ m. ⌜ Adds (textOf l) (selectorName s) (textOf m) ⌝ }
+fn put_selector(out: &mut [u8], at: usize, s: Selector) -> usize
+    ensures { λ m. ⌜ Puts (buffer (now (out .entry)) at) (selectorName s) (buffer (now (out .exit)) m) ⌝ }
 {
     match s {
-        Selector::B0 => put2(l, b'b', b'0'),
-        Selector::B1 => put2(l, b'b', b'1'),
-        Selector::B2 => put2(l, b'b', b'2'),
-        Selector::B3 => put2(l, b'b', b'3'),
-        Selector::H0 => put2(l, b'h', b'0'),
-        Selector::H1 => put2(l, b'h', b'1'),
+        Selector::B0 => put2(out, at, b'b', b'0'),
+        Selector::B1 => put2(out, at, b'b', b'1'),
+        Selector::B2 => put2(out, at, b'b', b'2'),
+        Selector::B3 => put2(out, at, b'b', b'3'),
+        Selector::H0 => put2(out, at, b'h', b'0'),
+        Selector::H1 => put2(out, at, b'h', b'1'),
     }
 }
 
-fn put_part(l: Line, w: Word, s: Selector) -> Line
-    ensures { λ m. ⌜ Adds (textOf l) (registerText (r w) ++ bytes "." ++ selectorName s) (textOf m) ⌝ }
+fn put_part(out: &mut [u8], at: usize, w: Word, s: Selector) -> usize
+    ensures { λ m. ⌜ Puts (buffer (now (out .entry)) at) (registerText (r w) ++ bytes "." ++ selectorName s) (buffer (now (out .exit)) m) ⌝ }
 {
-    put_selector(push(put_word(l, w), b'.'), s)
+    let at = put_word(out, at, w);
+    let at = text::push(out, at, b'.');
+    put_selector(out, at, s)
 }
 
-fn put_selected(l: Line, s: Selected) -> Line
-    ensures { λ m. ⌜ Adds (textOf l) (operandText (selectedTree s)) (textOf m) ⌝ }
+fn put_selected(out: &mut [u8], at: usize, s: Selected) -> usize
+    ensures { λ m. ⌜ Puts (buffer (now (out .entry)) at) (operandText (selectedTree s)) (buffer (now (out .exit)) m) ⌝ }
 {
     match s {
-        Selected::Whole(w) => put_word(l, w),
-        Selected::Part(w, sel) => put_part(l, w, sel),
+        Selected::Whole(w) => put_word(out, at, w),
+        Selected::Part(w, sel) => put_part(out, at, w, sel),
     }
 }
 
-fn put_form_d(l: Line, f: Form) -> Line
-    ensures { λ m. ⌜ Adds (textOf l) (operandText (formTree f)) (textOf m) ⌝ }
+fn put_form_d(out: &mut [u8], at: usize, f: Form) -> usize
+    ensures { λ m. ⌜ Puts (buffer (now (out .entry)) at) (operandText (formTree f)) (buffer (now (out .exit)) m) ⌝ }
 {
     match f {
-        Form::Plain { d } => put_word(l, d),
-        Form::Merge { d, sel, .. } => put_part(l, d, sel),
-        Form::Combine { d, .. } => put_word(l, d),
+        Form::Plain { d } => put_word(out, at, d),
+        Form::Merge { d, sel, .. } => put_part(out, at, d, sel),
+        Form::Combine { d, .. } => put_word(out, at, d),
     }
 }
 
 // A comma and one space.
-fn put_comma(l: Line) -> Line
-    ensures { λ m. ⌜ Adds (textOf l) (bytes ", ") (textOf m) ⌝ }
+fn put_comma(out: &mut [u8], at: usize) -> usize
+    ensures { λ m. ⌜ Puts (buffer (now (out .entry)) at) (bytes ", ") (buffer (now (out .exit)) m) ⌝ }
 {
-    put2(l, b',', b' ')
+    put2(out, at, b',', b' ')
 }
 
-fn put_form_last(l: Line, f: Form) -> Line
-    ensures { λ m. ⌜ Adds (textOf l) (further (formLast f)) (textOf m) ⌝ }
+fn put_form_last(out: &mut [u8], at: usize, f: Form) -> usize
+    ensures { λ m. ⌜ Puts (buffer (now (out .entry)) at) (further (formLast f)) (buffer (now (out .exit)) m) ⌝ }
 {
     match f {
-        Form::Plain { .. } => keep(l),
-        Form::Merge { c, .. } => put_word(put_comma(l), c),
-        Form::Combine { c, .. } => put_word(put_comma(l), c),
+        Form::Plain { .. } => at,
+        Form::Merge { c, .. } => {
+            let at = put_comma(out, at);
+            put_word(out, at, c)
+        },
+        Form::Combine { c, .. } => {
+            let at = put_comma(out, at);
+            put_word(out, at, c)
+        },
     }
 }
 
-fn put_scalar(l: Line, s: Scalar) -> Line
-    ensures { λ m. ⌜ Adds (textOf l) (operandsText (scalarTrees s)) (textOf m) ⌝ }
+fn put_scalar(out: &mut [u8], at: usize, s: Scalar) -> usize
+    ensures { λ m. ⌜ Puts (buffer (now (out .entry)) at) (operandsText (scalarTrees s)) (buffer (now (out .exit)) m) ⌝ }
 {
     let form = s.form;
     let a = s.a;
     let b = s.b;
-    let l1 = put_selected(put_comma(put_form_d(l, form)), a);
-    let l2 = put_selected(put_comma(l1), b);
-    put_form_last(l2, form)
+    let at = put_form_d(out, at, form);
+    let at = put_comma(out, at);
+    let at = put_selected(out, at, a);
+    let at = put_comma(out, at);
+    let at = put_selected(out, at, b);
+    put_form_last(out, at, form)
 }
 
 // ---- operands of vset2 and vset4: default masks and selectors are left out
@@ -508,213 +515,243 @@ fn same_mask(x: Mask, y: Mask) -> bool
     (x.lane0 == y.lane0) & (x.lane1 == y.lane1) & (x.lane2 == y.lane2) & (x.lane3 == y.lane3)
 }
 
-fn same_digits(x: Digits, y: Digits) -> bool
-    ensures { λ m. ⌜ m ≡ sameDigits x y ⌝ }
+fn same_digits(s: Digits, t: Digits) -> bool
+    ensures { λ m. ⌜ m ≡ sameDigits s t ⌝ }
 {
-    (x.lane0 == y.lane0) & (x.lane1 == y.lane1) & (x.lane2 == y.lane2) & (x.lane3 == y.lane3)
+    (s.lane0 == t.lane0) & (s.lane1 == t.lane1) & (s.lane2 == t.lane2) & (s.lane3 == t.lane3)
 }
 
-fn put_lane_letter(l: Line, w: LaneWidth) -> Line
-    ensures { λ m. ⌜ Adds (textOf l) (laneLetter w) (textOf m) ⌝ }
+fn put_lane_letter(out: &mut [u8], at: usize, w: LaneWidth) -> usize
+    ensures { λ m. ⌜ Puts (buffer (now (out .entry)) at) (laneLetter w) (buffer (now (out .exit)) m) ⌝ }
 {
     match w {
-        LaneWidth::Half => push(l, b'h'),
-        LaneWidth::Byte => push(l, b'b'),
+        LaneWidth::Half => text::push(out, at, b'h'),
+        LaneWidth::Byte => text::push(out, at, b'b'),
     }
 }
 
-fn put_mask_name(l: Line, w: LaneWidth, k: Mask) -> Line
-    ensures { λ m. ⌜ Adds (textOf l) (maskName w k) (textOf m) ⌝ }
+fn put_mask_name(out: &mut [u8], at: usize, w: LaneWidth, k: Mask) -> usize
+    ensures { λ m. ⌜ Puts (buffer (now (out .entry)) at) (maskName w k) (buffer (now (out .exit)) m) ⌝ }
 {
-    let l1 = push_if(put_lane_letter(l, w), k.lane3, b'3');
-    let l2 = push_if(push_if(l1, k.lane2, b'2'), k.lane1, b'1');
-    push_if(l2, k.lane0, b'0')
+    let at = put_lane_letter(out, at, w);
+    let at = push_if(out, at, k.lane3, b'3');
+    let at = push_if(out, at, k.lane2, b'2');
+    let at = push_if(out, at, k.lane1, b'1');
+    push_if(out, at, k.lane0, b'0')
 }
 
-fn put_mask(l: Line, w: LaneWidth, d: Word, k: Mask) -> Line
-    ensures { λ m. ⌜ Adds (textOf l) (operandText (maskTree w d k)) (textOf m) ⌝ }
+fn put_mask(out: &mut [u8], at: usize, w: LaneWidth, d: Word, k: Mask) -> usize
+    ensures { λ m. ⌜ Puts (buffer (now (out .entry)) at) (operandText (maskTree w d k)) (buffer (now (out .exit)) m) ⌝ }
 {
+    let at = put_word(out, at, d);
     if same_mask(k, record::full_mask(w)) {
-        return put_word(l, d);
+        return at;
     }
-    put_mask_name(push(put_word(l, d), b'.'), w, k)
+    let at = text::push(out, at, b'.');
+    put_mask_name(out, at, w, k)
 }
 
-fn put_digits_name(l: Line, w: LaneWidth, s: Digits) -> Line
-    ensures { λ m. ⌜ Adds (textOf l) (digitsName w s) (textOf m) ⌝ }
+fn put_digits_name(out: &mut [u8], at: usize, w: LaneWidth, s: Digits) -> usize
+    ensures { λ m. ⌜ Puts (buffer (now (out .entry)) at) (digitsName w s) (buffer (now (out .exit)) m) ⌝ }
 {
     let d0 = digit(s.lane0 as u16);
     let d1 = digit(s.lane1 as u16);
     let d2 = digit(s.lane2 as u16);
     let d3 = digit(s.lane3 as u16);
     match w {
-        LaneWidth::Half => put3(l, b'h', d1, d0),
-        LaneWidth::Byte => put5(l, b'b', d3, d2, d1, d0),
+        LaneWidth::Half => put3(out, at, b'h', d1, d0),
+        LaneWidth::Byte => put5(out, at, b'b', d3, d2, d1, d0),
     }
 }
 
-fn put_digits(l: Line, w: LaneWidth, default: Digits, a: Word, s: Digits) -> Line
-    ensures { λ m. ⌜ Adds (textOf l) (operandText (digitsTree w default a s)) (textOf m) ⌝ }
+fn put_digits(out: &mut [u8], at: usize, w: LaneWidth, default: Digits, a: Word, s: Digits) -> usize
+    ensures { λ m. ⌜ Puts (buffer (now (out .entry)) at) (operandText (digitsTree w default a s)) (buffer (now (out .exit)) m) ⌝ }
 {
+    let at = put_word(out, at, a);
     if same_digits(s, default) {
-        return put_word(l, a);
+        return at;
     }
-    put_digits_name(push(put_word(l, a), b'.'), w, s)
+    let at = text::push(out, at, b'.');
+    put_digits_name(out, at, w, s)
 }
 
-fn put_lanes(l: Line, s: Lanes) -> Line
-    ensures { λ m. ⌜ Adds (textOf l) (operandsText (lanesTrees s)) (textOf m) ⌝ }
+fn put_lanes(out: &mut [u8], at: usize, s: Lanes) -> usize
+    ensures { λ m. ⌜ Puts (buffer (now (out .entry)) at) (operandsText (lanesTrees s)) (buffer (now (out .exit)) m) ⌝ }
 {
     let width = s.width;
-    let l1 = put_mask(l, width, s.d, s.mask);
-    let l2 = put_digits(
-        put_comma(l1),
+    let at = put_mask(out, at, width, s.d, s.mask);
+    let at = put_comma(out, at);
+    let at = put_digits(
+        out,
+        at,
         width,
         record::default_digits(width, false),
         s.a,
         s.asel,
     );
-    let l3 = put_digits(
-        put_comma(l2),
+    let at = put_comma(out, at);
+    let at = put_digits(
+        out,
+        at,
         width,
         record::default_digits(width, true),
         s.b,
         s.bsel,
     );
-    put_word(put_comma(l3), s.c)
+    let at = put_comma(out, at);
+    put_word(out, at, s.c)
 }
 
 // ---- operands of set, setp, selp and slct
 
-fn put_condition(l: Line, c: Condition) -> Line
-    ensures { λ m. ⌜ Adds (textOf l) (operandText (conditionTree c)) (textOf m) ⌝ }
+fn put_condition(out: &mut [u8], at: usize, c: Condition) -> usize
+    ensures { λ m. ⌜ Puts (buffer (now (out .entry)) at) (operandText (conditionTree c)) (buffer (now (out .exit)) m) ⌝ }
 {
     if c.inverted {
-        put_pred(push(l, b'!'), c.pred)
+        let at = text::push(out, at, b'!');
+        put_pred(out, at, c.pred)
     } else {
-        put_pred(l, c.pred)
+        put_pred(out, at, c.pred)
     }
 }
 
-fn put_combination_last(l: Line, c: Combination) -> Line
-    ensures { λ m. ⌜ Adds (textOf l) (further (combinationLast c)) (textOf m) ⌝ }
+fn put_combination_last(out: &mut [u8], at: usize, c: Combination) -> usize
+    ensures { λ m. ⌜ Puts (buffer (now (out .entry)) at) (further (combinationLast c)) (buffer (now (out .exit)) m) ⌝ }
 {
     match c {
-        Combination::Alone => keep(l),
-        Combination::With(_, c) => put_condition(put_comma(l), c),
+        Combination::Alone => at,
+        Combination::With(_, c) => {
+            let at = put_comma(out, at);
+            put_condition(out, at, c)
+        },
     }
 }
 
-fn put_sources(l: Line, s: Comparison) -> Line
-    ensures { λ m. ⌜ Adds (textOf l) (further (sourceTrees s)) (textOf m) ⌝ }
+fn put_sources(out: &mut [u8], at: usize, s: Comparison) -> usize
+    ensures { λ m. ⌜ Puts (buffer (now (out .entry)) at) (further (sourceTrees s)) (buffer (now (out .exit)) m) ⌝ }
 {
     let a = s.a;
     let b = s.b;
     let combination = s.combination;
-    let l1 = put_operand(put_comma(l), a);
-    let l2 = put_operand(put_comma(l1), b);
-    put_combination_last(l2, combination)
+    let at = put_comma(out, at);
+    let at = put_operand(out, at, a);
+    let at = put_comma(out, at);
+    let at = put_operand(out, at, b);
+    put_combination_last(out, at, combination)
 }
 
 // One predicate, and `|_` where it is the first place of a pair.
-fn put_first(l: Line, a: Pred, pair: bool) -> Line
-    ensures { λ m. ⌜ Adds (textOf l) (registerText (p a) ++ cond pair (bytes "|") [] ++ cond pair (bytes "_") []) (textOf m) ⌝ }
+fn put_first(out: &mut [u8], at: usize, a: Pred, pair: bool) -> usize
+    ensures { λ m. ⌜ Puts (buffer (now (out .entry)) at) (registerText (p a) ++ cond pair (bytes "|") [] ++ cond pair (bytes "_") []) (buffer (now (out .exit)) m) ⌝ }
 {
-    push_if(push_if(put_pred(l, a), pair, b'|'), pair, b'_')
+    let at = put_pred(out, at, a);
+    let at = push_if(out, at, pair, b'|');
+    push_if(out, at, pair, b'_')
 }
 
-fn put_destination(l: Line, d: Destination) -> Line
-    ensures { λ m. ⌜ Adds (textOf l) (operandText (destinationTree d)) (textOf m) ⌝ }
+fn put_destination(out: &mut [u8], at: usize, d: Destination) -> usize
+    ensures { λ m. ⌜ Puts (buffer (now (out .entry)) at) (operandText (destinationTree d)) (buffer (now (out .exit)) m) ⌝ }
 {
     match d {
-        Destination::One(a) => put_first(l, a, false),
-        Destination::Pair(a, b) => put_pred(push(put_pred(l, a), b'|'), b),
-        Destination::First(a) => put_first(l, a, true),
-        Destination::Second(b) => put_pred(put2(l, b'_', b'|'), b),
+        Destination::One(a) => put_first(out, at, a, false),
+        Destination::Pair(a, b) => {
+            let at = put_pred(out, at, a);
+            let at = text::push(out, at, b'|');
+            put_pred(out, at, b)
+        },
+        Destination::First(a) => put_first(out, at, a, true),
+        Destination::Second(b) => {
+            let at = put2(out, at, b'_', b'|');
+            put_pred(out, at, b)
+        },
     }
 }
 
-fn put_set(l: Line, d: Word, s: Comparison) -> Line
-    ensures { λ m. ⌜ Adds (textOf l) (operandText (bare (r d)) ++ further (sourceTrees s)) (textOf m) ⌝ }
+fn put_set(out: &mut [u8], at: usize, d: Word, s: Comparison) -> usize
+    ensures { λ m. ⌜ Puts (buffer (now (out .entry)) at) (operandText (bare (r d)) ++ further (sourceTrees s)) (buffer (now (out .exit)) m) ⌝ }
 {
-    put_sources(put_word(l, d), s)
+    let at = put_word(out, at, d);
+    put_sources(out, at, s)
 }
 
-fn put_setp(l: Line, d: Destination, s: Comparison) -> Line
-    ensures { λ m. ⌜ Adds (textOf l) (operandText (destinationTree d) ++ further (sourceTrees s)) (textOf m) ⌝ }
+fn put_setp(out: &mut [u8], at: usize, d: Destination, s: Comparison) -> usize
+    ensures { λ m. ⌜ Puts (buffer (now (out .entry)) at) (operandText (destinationTree d) ++ further (sourceTrees s)) (buffer (now (out .exit)) m) ⌝ }
 {
-    put_sources(put_destination(l, d), s)
+    let at = put_destination(out, at, d);
+    put_sources(out, at, s)
 }
 
 // d, a, b and a comma.
-fn put_choice(l: Line, s: Choice) -> Line
-    ensures { λ m. ⌜ Adds (textOf l) (choiceText s) (textOf m) ⌝ }
+fn put_choice(out: &mut [u8], at: usize, s: Choice) -> usize
+    ensures { λ m. ⌜ Puts (buffer (now (out .entry)) at) (choiceText s) (buffer (now (out .exit)) m) ⌝ }
 {
     let d = s.d;
     let a = s.a;
     let b = s.b;
-    let l1 = put_operand(put_comma(put_operand(l, d)), a);
-    put_comma(put_operand(put_comma(l1), b))
+    let at = put_operand(out, at, d);
+    let at = put_comma(out, at);
+    let at = put_operand(out, at, a);
+    let at = put_comma(out, at);
+    let at = put_operand(out, at, b);
+    put_comma(out, at)
 }
 
-fn put_selp(l: Line, s: Choice, c: Pred) -> Line
-    ensures { λ m. ⌜ Adds (textOf l) (operandsText (choiceTrees s (p c))) (textOf m) ⌝ }
+fn put_selp(out: &mut [u8], at: usize, s: Choice, c: Pred) -> usize
+    ensures { λ m. ⌜ Puts (buffer (now (out .entry)) at) (operandsText (choiceTrees s (p c))) (buffer (now (out .exit)) m) ⌝ }
 {
-    put_pred(put_choice(l, s), c)
+    let at = put_choice(out, at, s);
+    put_pred(out, at, c)
 }
 
-fn put_slct(l: Line, s: Choice, c: Word) -> Line
-    ensures { λ m. ⌜ Adds (textOf l) (operandsText (choiceTrees s (r c))) (textOf m) ⌝ }
+fn put_slct(out: &mut [u8], at: usize, s: Choice, c: Word) -> usize
+    ensures { λ m. ⌜ Puts (buffer (now (out .entry)) at) (operandsText (choiceTrees s (r c))) (buffer (now (out .exit)) m) ⌝ }
 {
-    put_word(put_choice(l, s), c)
+    let at = put_choice(out, at, s);
+    put_word(out, at, c)
 }
 
-fn put_operands(l: Line, i: Instruction) -> Line
-    ensures { λ m. ⌜ Adds (textOf l) (operandsText (operandTrees i)) (textOf m) ⌝ }
+fn put_operands(out: &mut [u8], at: usize, i: Instruction) -> usize
+    ensures { λ m. ⌜ Puts (buffer (now (out .entry)) at) (operandsText (operandTrees i)) (buffer (now (out .exit)) m) ⌝ }
 {
     match i {
-        Instruction::Arithmetic { scalar, .. } => put_scalar(l, scalar),
-        Instruction::Vset { scalar, .. } => put_scalar(l, scalar),
-        Instruction::VsetLanes { lanes, .. } => put_lanes(l, lanes),
-        Instruction::Set { d, comparison, .. } => put_set(l, d, comparison),
-        Instruction::Setp { d, comparison } => put_setp(l, d, comparison),
-        Instruction::Selp { choice, c } => put_selp(l, choice, c),
-        Instruction::Slct { choice, c, .. } => put_slct(l, choice, c),
+        Instruction::Arithmetic { scalar, .. } => put_scalar(out, at, scalar),
+        Instruction::Vset { scalar, .. } => put_scalar(out, at, scalar),
+        Instruction::VsetLanes { lanes, .. } => put_lanes(out, at, lanes),
+        Instruction::Set { d, comparison, .. } => put_set(out, at, d, comparison),
+        Instruction::Setp { d, comparison } => put_setp(out, at, d, comparison),
+        Instruction::Selp { choice, c } => put_selp(out, at, choice, c),
+        Instruction::Slct { choice, c, .. } => put_slct(out, at, choice, c),
     }
 }
 
 // ---- the line
 
-fn put_guard(l: Line, g: Guard) -> Line
-    ensures { λ m. ⌜ Adds (textOf l) (guardPart g) (textOf m) ⌝ }
+fn put_guard(out: &mut [u8], at: usize, g: Guard) -> usize
+    ensures { λ m. ⌜ Puts (buffer (now (out .entry)) at) (guardPart g) (buffer (now (out .exit)) m) ⌝ }
 {
     match g {
-        Guard::Always => keep(l),
-        Guard::When(c) => push(put_condition(push(l, b'@'), c), b' '),
+        Guard::Always => at,
+        Guard::When(c) => {
+            let at = text::push(out, at, b'@');
+            let at = put_condition(out, at, c);
+            text::push(out, at, b' ')
+        },
     }
 }
 
-fn standard_line(x: Record) -> Line
-    ensures { λ m. ⌜ Adds [] (standard x) (textOf m) ⌝ }
+fn standard_line(out: &mut [u8], x: Record) -> usize
+    ensures { λ m. ⌜ Puts (buffer (now (out .entry)) 0) (standard x) (buffer (now (out .exit)) m) ⌝ }
 {
     let guard = x.guard;
     let instruction = x.instruction;
-    let l1 = put_head(put_guard(empty(), guard), instruction);
-    let l2 = put_operands(push(l1, b' '), instruction);
-    push(l2, b';')
+    let at = put_guard(out, 0, guard);
+    let at = put_head(out, at, instruction);
+    let at = text::push(out, at, b' ');
+    let at = put_operands(out, at, instruction);
+    text::push(out, at, b';')
 }
 
 // ---- the entry point
-
-// How many bytes the line has.
-fn size(l: Line) -> usize
-    ensures { λ n. ⌜ (n ≤ room) × (n ≡ length (textOf l)) × (take n (l .bytes) ≡ textOf l) ⌝ }
-{
-    if ROOM < l.len {
-        return ROOM;
-    }
-    l.len
-}
 
 // All of src to the front of dst.
 fn copy_front(src: &[u8], dst: &mut [u8])
@@ -728,32 +765,18 @@ fn copy_front(src: &[u8], dst: &mut [u8])
     }
 }
 
-// The first refusal that applies, 0 where none does.
-fn first_refusal(illegal: bool, short: bool) -> u8
-    ensures { λ n. ⌜ n ≡ firstRefusal illegal short ⌝ }
-{
-    if illegal {
-        return NOT_LEGAL;
-    }
-    if short {
-        return TOO_SHORT;
-    }
-    0
-}
-
 // The record's standard line at the front of buf. A refusal changes nothing.
 pub fn write(x: Record, buf: &mut [u8]) -> Written
     ensures { λ m. ⌜ outcome (answerOf m) (now (buf .exit)) ≡ writing x (now (buf .entry)) ⌝ }
 {
-    let line = standard_line(x);
-    let n = size(line);
-    let illegal = !record::legal(x);
-    let short = buf.len() < n;
-    let refusal = first_refusal(illegal, short);
-    if refusal != 0 {
-        return Written::Refused(refusal);
+    if !record::legal(x) {
+        return Written::Refused(NOT_LEGAL);
     }
-    let bytes = line.bytes;
-    copy_front(&bytes[..n], buf);
+    let mut line = [0u8; ROOM];
+    let n = standard_line(&mut line, x);
+    if buf.len() < n {
+        return Written::Refused(TOO_SHORT);
+    }
+    copy_front(&line[..n], buf);
     Written::Length(n)
 }

@@ -1,4 +1,5 @@
-use Rattle.write.specs.Adds.{_then_}
+use mathlib.Core.Path.{_∙_}
+use Rattle.text.specs.Buffer.{_then_}
 use borrow.Author.Needs.{needs}
 use Rattle.write.proofs.put_arith.Statement.{statement}
 use Rattle.write.proofs.put_arith.Tie as tie
@@ -7,67 +8,64 @@ enum-told : tie.Need-enum-told
 enum-told c = search needs
 
 put4-requires : tie.Need-put4-requires
-put4-requires c κs = search needs
+put4-requires c κs = tt
 
 enum-told-2 : tie.Need-enum-told-2
 enum-told-2 c = search needs
 
 put4-requires-2 : tie.Need-put4-requires-2
-put4-requires-2 c κs = search needs
+put4-requires-2 c κs = tt
 
 enum-told-3 : tie.Need-enum-told-3
 enum-told-3 c = search needs
 
 put4-requires-3 : tie.Need-put4-requires-3
-put4-requires-3 c κs = search needs
+put4-requires-3 c κs = tt
 
 put4-requires-4 : tie.Need-put4-requires-4
-put4-requires-4 c κs = search needs
+put4-requires-4 c κs = tt
 
 enum-told-4 : tie.Need-enum-told-4
 enum-told-4 c = search needs
 
 put4-requires-5 : tie.Need-put4-requires-5
-put4-requires-5 c κs = search needs
+put4-requires-5 c κs = tt
 
 enum-told-5 : tie.Need-enum-told-5
 enum-told-5 c = search needs
 
 put4-requires-6 : tie.Need-put4-requires-6
-put4-requires-6 c κs = search needs
+put4-requires-6 c κs = tt
+
+same-length : tie.Need-same-length
+same-length c = c .before .before .put4 .kept .0
 
 returns : tie.Need-returns
-returns c = rw (c .before .enum-told .given .1) (c .put4 .ensures)
+returns c = rw (c .before .before .before .before .enum-told .given .1) (c .before .before .put4 .ensures)
+
+same-length-2 : tie.Need-same-length-2
+same-length-2 c = c .before .before .put42 .kept .0
 
 returns-2 : tie.Need-returns-2
-returns-2 c = rw (c .before .enum-told2 .given .1) (c .put42 .ensures)
+returns-2 c = rw (c .before .before .before .before .enum-told2 .given .1) (c .before .before .put42 .ensures)
+
+same-length-3 : tie.Need-same-length-3
+same-length-3 c = c .before .before .put44 .kept .0 ∙ c .before .before .before .before .before .before .put43 .kept .0
 
 returns-3 : tie.Need-returns-3
-returns-3 c = rw (c .before .before .enum-told3 .given .1) (c .before .put43 .ensures then c .put44 .ensures)
+returns-3 c = rw (c .before .before .before .before .before .before .before .before .enum-told3 .given .1) (c .before .before .before .before .before .before .put43 .ensures then c .before .before .put44 .ensures)
+
+same-length-4 : tie.Need-same-length-4
+same-length-4 c = c .before .before .put45 .kept .0
 
 returns-4 : tie.Need-returns-4
-returns-4 c = rw (c .before .enum-told4 .given .1) (c .put45 .ensures)
+returns-4 c = rw (c .before .before .before .before .enum-told4 .given .1) (c .before .before .put45 .ensures)
+
+same-length-5 : tie.Need-same-length-5
+same-length-5 c = c .before .before .put46 .kept .0
 
 returns-5 : tie.Need-returns-5
-returns-5 c = rw (c .before .enum-told5 .given .1) (c .put46 .ensures)
+returns-5 c = rw (c .before .before .before .before .enum-told5 .given .1) (c .before .before .put46 .ensures)
 
 pub put-arith-spec : {M : Type 1} → statement M
-put-arith-spec =
-    tie.close
-    (tie.spec
-    enum-told
-    put4-requires
-    enum-told-2
-    put4-requires-2
-    enum-told-3
-    put4-requires-3
-    put4-requires-4
-    enum-told-4
-    put4-requires-5
-    enum-told-5
-    put4-requires-6
-    returns
-    returns-2
-    returns-3
-    returns-4
-    returns-5)
+put-arith-spec = tie.close (tie.spec enum-told put4-requires enum-told-2 put4-requires-2 enum-told-3 put4-requires-3 put4-requires-4 enum-told-4 put4-requires-5 enum-told-5 put4-requires-6 same-length returns same-length-2 returns-2 same-length-3 returns-3 same-length-4 returns-4 same-length-5 returns-5)

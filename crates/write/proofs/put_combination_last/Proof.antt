@@ -1,4 +1,5 @@
-use Rattle.write.specs.Adds.{_then_, ends}
+use mathlib.Core.Path.{_∙_}
+use Rattle.text.specs.Buffer.{ends, same, _then_}
 use borrow.Author.Needs.{needs}
 use Rattle.write.proofs.put_combination_last.Statement.{statement}
 use Rattle.write.proofs.put_combination_last.Tie as tie
@@ -6,32 +7,23 @@ use Rattle.write.proofs.put_combination_last.Tie as tie
 enum-told : tie.Need-enum-told
 enum-told c = search needs
 
-keep-requires : tie.Need-keep-requires
-keep-requires c κs = search needs
-
 enum-known-c : tie.Need-enum-known-c
 enum-known-c c = search needs
 
 put-comma-requires : tie.Need-put-comma-requires
-put-comma-requires c κs = search needs
+put-comma-requires c κs = tt
 
 put-condition-requires : tie.Need-put-condition-requires
-put-condition-requires c κs = search needs
+put-condition-requires c κs = tt
 
 returns : tie.Need-returns
-returns c = rw (c .before .enum-told .given .1) (c .keep .ensures)
+returns c = rw (c .enum-told .given .1) (same _)
+
+same-length : tie.Need-same-length
+same-length c = c .before .before .put-condition .kept .0 ∙ c .before .before .before .before .before .before .put-comma .kept .0
 
 returns-2 : tie.Need-returns-2
-returns-2 c = rw (c .before .before .before .c .given .1) (ends (c .before .put-comma .ensures then c .put-condition .ensures))
+returns-2 c = rw (c .before .before .before .before .before .before .before .before .before .c .given .1) (ends (c .before .before .before .before .before .before .put-comma .ensures then c .before .before .put-condition .ensures))
 
 pub put-combination-last-spec : {M : Type 1} → statement M
-put-combination-last-spec =
-    tie.close
-    (tie.spec
-    enum-told
-    keep-requires
-    enum-known-c
-    put-comma-requires
-    put-condition-requires
-    returns
-    returns-2)
+put-combination-last-spec = tie.close (tie.spec enum-told enum-known-c put-comma-requires put-condition-requires returns same-length returns-2)

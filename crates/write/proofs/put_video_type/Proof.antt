@@ -6,20 +6,25 @@ enum-told : tie.Need-enum-told
 enum-told c = search needs
 
 put4-requires : tie.Need-put4-requires
-put4-requires c κs = search needs
+put4-requires c κs = tt
 
 enum-told-2 : tie.Need-enum-told-2
 enum-told-2 c = search needs
 
 put4-requires-2 : tie.Need-put4-requires-2
-put4-requires-2 c κs = search needs
+put4-requires-2 c κs = tt
+
+same-length : tie.Need-same-length
+same-length c = c .before .before .put4 .kept .0
 
 returns : tie.Need-returns
-returns c = rw (c .before .enum-told .given .1) (c .put4 .ensures)
+returns c = rw (c .before .before .before .before .enum-told .given .1) (c .before .before .put4 .ensures)
+
+same-length-2 : tie.Need-same-length-2
+same-length-2 c = c .before .before .put42 .kept .0
 
 returns-2 : tie.Need-returns-2
-returns-2 c = rw (c .before .enum-told2 .given .1) (c .put42 .ensures)
+returns-2 c = rw (c .before .before .before .before .enum-told2 .given .1) (c .before .before .put42 .ensures)
 
 pub put-video-type-spec : {M : Type 1} → statement M
-put-video-type-spec =
-    tie.close (tie.spec enum-told put4-requires enum-told-2 put4-requires-2 returns returns-2)
+put-video-type-spec = tie.close (tie.spec enum-told put4-requires enum-told-2 put4-requires-2 same-length returns same-length-2 returns-2)

@@ -6,61 +6,48 @@ use Rattle.rules.specs.Writing.{Outcome}
 use Rattle.write.specs.Answers.{answers-one}
 use Rattle.write.specs.declared.Written.{Written}
 use Rattle.write.proofs.write.Kinds as kinds
-use mathlib.Core.Path.{_≡_, sym, ap}
-use native.Mathlib.Omega.{arith}
-use lib.ListN.{length}
+use mathlib.Core.Path.{_≡_, sym, ap, _∙_}
 use lib.Seq.{length-take-le}
 use denote.Ref.{now}
-use Rattle.write.proofs.Laws.{ends-refused, room-there, ends-written}
+use borrow.Author.Tests.{not-true, not-false}
+use Rattle.write.proofs.Laws.{ends-illegal, fits, ends-short, ends-written}
 use borrow.Author.Needs.{needs}
 use Rattle.write.proofs.write.Statement.{statement}
 use Rattle.write.proofs.write.Tie as tie
 use Rattle.write.proofs.write.Reads as reads
 
-standard-line-requires : tie.Need-standard-line-requires
-standard-line-requires c κs = search needs
-
-size-requires : tie.Need-size-requires
-size-requires c κs = search needs
-
 legal-requires : tie.Need-legal-requires
-legal-requires c κs = search needs
-
-first-refusal-requires : tie.Need-first-refusal-requires
-first-refusal-requires c κs = search needs
+legal-requires c κs = tt
 
 returns : tie.Need-returns
-returns c = ends-refused (c .before .before .before .before .before .before .args .x) (now (c .before .before .before .before .before .before .args .buf)) (c .before .before .before .before .standard-line .ensures) _ (simp (c .before .first-refusal .ensures, c .before .before .legal .ensures, c .before .before .before .size .ensures .1)) (c .if1 .taken)
+returns c = ends-illegal _ _ (sym (c .before .legal .ensures) ∙ not-true _ (c .if1 .taken))
 
-array-share-prefix-bytes : tie.Need-array-share-prefix-bytes
-array-share-prefix-bytes c = let h : length (c .before .before .before .before .before .standard-line .result .bytes) ≡ 160 = search needs in omega arith
+slice-aggregate-standard-line : tie.Need-slice-aggregate-standard-line
+slice-aggregate-standard-line c = search needs
+
+standard-line-requires : tie.Need-standard-line-requires
+standard-line-requires c κs = tt
+
+returns-2 : tie.Need-returns-2
+returns-2 c = ends-short _ (sym (c .before .before .before .before .before .legal .ensures) ∙ not-false _ (c .before .before .before .before .if1 .left)) (search needs) (c .before .before .standard-line .ensures) _ (c .if2 .taken)
+
+array-share-prefix-line : tie.Need-array-share-prefix-line
+array-share-prefix-line c = fits _ (sym (c .before .before .before .before .before .legal .ensures) ∙ not-false _ (c .before .before .before .before .if1 .left)) (search needs) (c .before .before .standard-line .ensures)
 
 slice-aggregate-copy-front : tie.Need-slice-aggregate-copy-front
-slice-aggregate-copy-front c = let h : length (c .before .before .before .before .before .before .standard-line .result .bytes) ≡ 160 = search needs in sym (length-take-le _ _ (omega arith))
+slice-aggregate-copy-front c = sym (length-take-le _ _ (fits _ (sym (c .before .before .before .before .before .before .legal .ensures) ∙ not-false _ (c .before .before .before .before .before .if1 .left)) (search needs) (c .before .before .before .standard-line .ensures)))
 
 copy-front-requires : tie.Need-copy-front-requires
-copy-front-requires c κs = rw (c .before .before .before .before .before .before .size .ensures .2) (room-there (c .before .before .before .before .before .before .before .before .before .args .x) (now (c .before .before .before .before .before .before .before .before .before .args .buf)) (c .before .before .before .before .before .before .before .standard-line .ensures) _ (simp (c .before .before .before .before .first-refusal .ensures, c .before .before .before .before .before .legal .ensures, c .before .before .before .before .before .before .size .ensures .1)) (c .before .before .before .if1 .left))
+copy-front-requires c κs = rw (length-take-le _ _ (fits _ (sym (c .before .before .before .before .before .before .before .legal .ensures) ∙ not-false _ (c .before .before .before .before .before .before .if1 .left)) (search needs) (c .before .before .before .before .standard-line .ensures))) (c .before .before .if2 .left)
 
 same-length : tie.Need-same-length
 same-length c = search needs
 
-returns-2 : tie.Need-returns-2
-returns-2 c = rw (c .before .before .before .before .before .before .before .before .before .size .ensures .1) (ends-written (c .before .before .before .before .before .before .before .before .before .before .before .before .args .x) (now (c .before .before .before .before .before .before .before .before .before .before .before .before .args .buf)) (c .before .before .before .before .before .before .before .before .before .before .standard-line .ensures) _ (simp (c .before .before .before .before .before .before .before .first-refusal .ensures, c .before .before .before .before .before .before .before .before .legal .ensures, c .before .before .before .before .before .before .before .before .before .size .ensures .1)) (c .before .before .before .before .before .before .if1 .left) (rw (c .before .before .before .before .before .before .before .before .before .size .ensures .2) at (c .before .before .copy-front .ensures)))
+returns-3 : tie.Need-returns-3
+returns-3 c = ends-written _ (sym (c .before .before .before .before .before .before .before .before .before .before .legal .ensures) ∙ not-false _ (c .before .before .before .before .before .before .before .before .before .if1 .left)) (search needs) (c .before .before .before .before .before .before .before .standard-line .ensures) _ (c .before .before .before .before .before .if2 .left) (c .before .before .copy-front .ensures)
 
 pub write-spec : {M : Type 1} → statement M
-write-spec =
-    tie.close
-    (tie.spec
-    standard-line-requires
-    size-requires
-    legal-requires
-    first-refusal-requires
-    returns
-    array-share-prefix-bytes
-    slice-aggregate-copy-front
-    copy-front-requires
-    same-length
-    returns-2)
+write-spec = tie.close (tie.spec legal-requires returns slice-aggregate-standard-line standard-line-requires returns-2 array-share-prefix-line slice-aggregate-copy-front copy-front-requires same-length returns-3)
 
 -- no two outcomes, answer and buffer left, satisfy the contract as it stands in src/lib.rt
 pub write-one-outcome :
