@@ -84,7 +84,9 @@ static void emit_format(const char *format, ...)
 
 static unsigned hot[64];
 static unsigned hot_count;
-static unsigned last_source;
+static unsigned last_source, last_double;
+
+enum { EXTREMES = 6 };          /* the first hot ones: 0, 1, 1.0 and the extremes of a word */
 
 static bool is_hot(unsigned n)
 {
@@ -98,12 +100,19 @@ static unsigned source_word(void)
 {
     unsigned kind = below(100);
     if (kind >= 10) {
-        if (kind < 55 && hot_count > 0)
+        if (kind < 35 && hot_count > 0)         /* often, since both sources have to be extremes to meet */
+            last_source = hot[below(EXTREMES)];
+        else if (kind < 65 && hot_count > 0)
             last_source = hot[below(hot_count)];
         else
             last_source = below(64);
     }
     return last_source;
+}
+
+static unsigned hot_word(void)
+{
+    return hot_count > 0 ? hot[below(hot_count)] : below(64);
 }
 
 static unsigned destination_word(void)
@@ -122,7 +131,9 @@ static unsigned destination_word(void)
 static unsigned double_word(void)
 {
     static const unsigned edges[] = { 0, 15, 16, 31 };
-    return percent(15) ? PICK(edges) : below(32);
+    if (!percent(10))           /* else the same again, so that doubles are equal at times */
+        last_double = percent(15) ? PICK(edges) : below(32);
+    return last_double;
 }
 
 /* Doubles are only copied, so most of them keep their start value. */
@@ -141,7 +152,7 @@ static unsigned predicate(void)
 static void emit_kit(void)
 {
     enum {
-        ZERO, ONES, ONE, F_ONE, S_MAX, S_MIN, INF, N_INF, QNAN, N_QNAN, SNAN, N_SNAN,
+        ZERO, ONES, ONE, F_ONE, S_MAX, S_MIN, /* EXTREMES */ INF, N_INF, QNAN, N_QNAN, SNAN, N_SNAN,
         SNAN_MAX, F_MAX, NF_MAX, NORMAL, N_NORMAL, SUB_MAX, N_SUB_MAX, N_SUB_MIN,
         NF_ONE, H_MAX, H_MIN, B_MAX, B_MIN, S_MIN_1, KIT
     };
@@ -244,16 +255,20 @@ static void add_scalar_source(Draft *d)
         add_operand(d, "%%r%u.%s", n, PICK(parts));
 }
 
-/* Operands of scalar video, vset included. */
-static void add_scalar_operands(Draft *d, bool has_op2)
+/* Operands of scalar video, vset included; `clamped` asks for words of hot registers into a part, where sat shows most. */
+static void add_scalar_operands(Draft *d, bool has_op2, bool clamped)
 {
-    bool merge = !has_op2 && percent(55);
+    bool merge = clamped || (!has_op2 && percent(55));
     if (merge)
         add_operand(d, "%%r%u.%s", destination_word(), PICK(parts));
     else
         add_operand(d, "%%r%u", destination_word());
-    add_scalar_source(d);
-    add_scalar_source(d);
+    for (int i = 0; i < 2; i++) {
+        if (clamped)
+            add_operand(d, "%%r%u", hot_word());
+        else
+            add_scalar_source(d);
+    }
     if (has_op2 || merge)
         add_operand(d, "%%r%u", source_word());
 }
@@ -263,12 +278,13 @@ static void draft_scalar(Draft *d)
     add_name(d, PICK(scalar_opcodes));
     for (int i = 0; i < 3; i++)
         add_name(d, PICK(video_types));
-    if (percent(50))
+    bool clamped = percent(15);
+    if (clamped || percent(50))
         add_name(d, "sat");
-    bool has_op2 = percent(40);
+    bool has_op2 = !clamped && percent(45);
     if (has_op2)
         add_name(d, PICK(op2));
-    add_scalar_operands(d, has_op2);
+    add_scalar_operands(d, has_op2, clamped);
 }
 
 static void draft_vset(Draft *d)
@@ -280,7 +296,7 @@ static void draft_vset(Draft *d)
     bool has_op2 = percent(40);
     if (has_op2)
         add_name(d, PICK(op2));
-    add_scalar_operands(d, has_op2);
+    add_scalar_operands(d, has_op2, false);
 }
 
 static void add_lane_source(Draft *d, unsigned lanes, const char *standard)
@@ -329,14 +345,14 @@ static void add_typed_sources(Draft *d, const char *type)
     for (int i = 0; i < 2; i++) {
         if (is_wide(type))
             add_operand(d, "%%rd%u", double_word());
-        else
-            add_operand(d, "%%r%u", source_word());
+        else                    /* of singles all pairs of classes should meet, so all hot ones are as likely */
+            add_operand(d, "%%r%u", type[0] == 'f' && percent(60) ? hot_word() : source_word());
     }
 }
 
 static void draft_set(Draft *d, bool setp)
 {
-    const char *type = percent(40) ? "f32" : PICK(types);
+    const char *type = percent(30) ? "f32" : PICK(types);
     add_name(d, setp ? "setp" : "set");
     switch (type[0]) {
     case 'b': add_name(d, cmp6[below(2)]); break;
@@ -345,12 +361,15 @@ static void draft_set(Draft *d, bool setp)
     default:  add_name(d, PICK(cmp_float)); break;
     }
     bool has_bool_op = percent(50);
+    unsigned c = predicate();
     if (has_bool_op)
         add_name(d, PICK(bool_op));
     if (strcmp(type, "f32") == 0 && percent(45))
         add_name(d, "ftz");
     if (setp) {
         unsigned kind = below(100), p = predicate(), q = predicate();
+        if (percent(20))        /* c has to be read before it is written */
+            c = percent(70) ? p : q;
         if (kind < 40) {
             add_operand(d, "%%p%u", p);
         } else if (kind < 75) {
@@ -370,7 +389,7 @@ static void draft_set(Draft *d, bool setp)
     add_name(d, type);
     add_typed_sources(d, type);
     if (has_bool_op)
-        add_operand(d, "%s%%p%u", percent(50) ? "!" : "", predicate());
+        add_operand(d, "%s%%p%u", percent(50) ? "!" : "", c);
 }
 
 static void add_typed_destination(Draft *d, const char *type)
@@ -413,8 +432,8 @@ static void draft_good(Draft *d)
     unsigned kind = below(100);
     if (kind < 28)      draft_scalar(d);
     else if (kind < 36) draft_vset(d);
-    else if (kind < 47) draft_lanes(d, 2);
-    else if (kind < 60) draft_lanes(d, 4);
+    else if (kind < 45) draft_lanes(d, 2);
+    else if (kind < 56) draft_lanes(d, 4);
     else if (kind < 74) draft_set(d, false);
     else if (kind < 88) draft_set(d, true);
     else if (kind < 93) draft_selp(d);
@@ -534,8 +553,13 @@ static void spoil_operands(Draft *d)
     unsigned at = below(d->operands);
     char made[TEXT_MOST];
     any_operand(made);
-    switch (below(12)) {
-    case 0: remove_text(d->operand, &d->operands, at); break;
+    switch (below(14)) {
+    case 0:
+        if (percent(50))
+            remove_text(d->operand, &d->operands, at);
+        else
+            d->operands = at + 1;
+        break;
     case 1: insert_text(d->operand, &d->operands, OPERANDS_MOST, at, d->operand[at]); break;
     case 2: insert_text(d->operand, &d->operands, OPERANDS_MOST, below(d->operands + 1), made); break;
     case 3: swap_texts(d->operand[at], d->operand[below(d->operands)]); break;
@@ -559,23 +583,22 @@ static void spoil_operands(Draft *d)
         d->operand[at][TEXT_MOST - 1] = '\0';
         break;
     }
+    case 11: {                  /* a pair, right for setp's d alone */
+        unsigned p = below(16);
+        snprintf(d->operand[at], TEXT_MOST, percent(50) ? "%%p%u|%%p%u" : "%%p%u|_", p, (p + 1) % 16);
+        break;
+    }
     case 10: {                  /* a pair of one predicate */
         unsigned p = below(percent(80) ? 16 : 20);
         snprintf(d->operand[0], TEXT_MOST, "%%p%u|%%p%u", p, p);
         break;
     }
-    default: {                  /* the other file */
-        char *o = d->operand[at];
-        char *r = strchr(o, 'r');
-        if (r != NULL && r[1] == 'd')
-            memmove(r + 1, r + 2, strlen(r + 2) + 1);
-        else if (r != NULL && strlen(o) + 1 < TEXT_MOST) {
-            memmove(r + 2, r + 1, strlen(r + 1) + 1);
-            r[1] = 'd';
-        } else {
-            r = strchr(o, 'p');
-            if (r != NULL)
-                *r = 'r';
+    default: {                  /* another file */
+        static const char *const files[] = { "r", "rd", "p" };
+        char *sign = strchr(d->operand[at], '%');
+        if (sign != NULL) {
+            snprintf(made, sizeof made, "%s", sign + 1 + strspn(sign + 1, "rdp"));
+            snprintf(sign + 1, TEXT_MOST - (size_t)(sign + 1 - d->operand[at]), "%s%.30s", PICK(files), made);
         }
         break;
     }
@@ -765,7 +788,7 @@ static void insert_hostile(Line *line)
         0, '\r', 0x80, 0xFF, 0x0B, 0x0C, 0x1B, 0x7F, 0xA0, 0xC3, '\\', '"', '{', '/', '-', '+', 'R', 'A', ':'
     };
     size_t at = percent(40) ? line->length : below((unsigned)line->length + 1);
-    insert_byte(line, at, PICK(hostile));
+    insert_byte(line, at, percent(40) ? PICK(hostile) : (Byte)below(256));
 }
 
 static void random_bytes(Line *line)
@@ -812,32 +835,38 @@ static void emit_line(void)
     draft_good(&draft);
     unsigned kind = below(1000);
 
-    if (kind < 620) {
+    if (kind < 600) {
         render_some_way(&draft, &line);
-    } else if (kind < 642) {
+    } else if (kind < 622) {
         render_long(&draft, &line);
-    } else if (kind < 730) {
+    } else if (kind < 704) {
         render_some_way(&draft, &line);
         spoil_byte(&line);
-    } else if (kind < 793) {
+    } else if (kind < 767) {
         spoil_names(&draft);
         render_some_way(&draft, &line);
-    } else if (kind < 868) {
+    } else if (kind < 856) {
         spoil_operands(&draft);
         render_some_way(&draft, &line);
-    } else if (kind < 876) {    /* a pair of one predicate */
-        unsigned p = predicate();
+    } else if (kind < 864) {    /* a pair of one predicate */
+        unsigned p = percent(85) ? predicate() : 14 + below(5);
+        unsigned q = percent(85) ? p : 14 + below(5);
         memset(&draft, 0, sizeof draft);
         draft_set(&draft, true);
-        snprintf(draft.operand[0], TEXT_MOST, "%%p%u|%%p%u", p, p);
-        render_some_way(&draft, &line);
-    } else if (kind < 920) {
+        if (percent(10))
+            spoil_operands(&draft);
+        snprintf(draft.operand[0], TEXT_MOST, "%%p%u|%%p%u", p, q);
+        if (percent(10))
+            render_long(&draft, &line);
+        else
+            render_some_way(&draft, &line);
+    } else if (kind < 908) {
         spoil_number(&draft);
         render_some_way(&draft, &line);
-    } else if (kind < 930) {
+    } else if (kind < 918) {
         spoil_guard(&draft);
         render_some_way(&draft, &line);
-    } else if (kind < 946) {
+    } else if (kind < 934) {
         render_some_way(&draft, &line);
         insert_byte(&line, below((unsigned)line.length + 1), percent(60) ? ' ' : '\t');
     } else if (kind < 962) {

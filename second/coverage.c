@@ -1,0 +1,839 @@
+/*
+ * coverage TALLY LISTING..: adds to the file TALLY how often each kind of line and of operand value stands in the listings.
+ * coverage TALLY: prints for each group of kinds how many occurred, and which never did; status 1 if one never did.
+ *
+ * Kinds are counted by the reader and the registers of alone.c, which is taken in as it stands: where it
+ * misreads a line the comparison of answers differs, so the count needs no reader of its own.
+ */
+#define main alone_main
+#include "alone.c"
+#undef main
+
+#include <stdarg.h>
+
+/* ---- kinds: `group: item`, each declared before it is counted ---- */
+
+enum { KINDS_MOST = 16384, NAME_MOST = 96 };
+
+typedef struct {
+    char name[NAME_MOST];
+    unsigned long count;
+} Kind;
+
+static Kind kinds[KINDS_MOST];
+static unsigned slots[2 * KINDS_MOST];      /* number of a kind and 1, 0 if free */
+static unsigned kind_count;
+
+static void stop(const char *why, const char *what)
+{
+    fprintf(stderr, "coverage: %s: %s\n", why, what);
+    exit(2);
+}
+
+static unsigned *slot_of(const char *name)
+{
+    uint32_t hash = 2166136261u;
+    for (const char *p = name; *p != '\0'; p++)
+        hash = (hash ^ (Byte)*p) * 16777619u;
+    unsigned at = hash % (2 * KINDS_MOST);
+    while (slots[at] != 0 && strcmp(kinds[slots[at] - 1].name, name) != 0)
+        at = (at + 1) % (2 * KINDS_MOST);
+    return &slots[at];
+}
+
+static void kind(const char *format, ...)
+{
+    if (kind_count == KINDS_MOST)
+        stop("too many kinds", format);
+    va_list list;
+    va_start(list, format);
+    vsnprintf(kinds[kind_count].name, NAME_MOST, format, list);
+    va_end(list);
+    unsigned *slot = slot_of(kinds[kind_count].name);
+    if (*slot != 0)
+        stop("declared twice", kinds[kind_count].name);
+    *slot = ++kind_count;
+}
+
+static void hit(const char *format, ...)
+{
+    char name[NAME_MOST];
+    va_list list;
+    va_start(list, format);
+    vsnprintf(name, sizeof name, format, list);
+    va_end(list);
+    unsigned *slot = slot_of(name);
+    if (*slot == 0)
+        stop("not declared", name);
+    kinds[*slot - 1].count++;
+}
+
+/* ---- classes of values ---- */
+
+static const char *const single_classes[] = {
+    "-qnan", "-snan", "-inf", "-normal", "-subnormal", "-0", "+0", "+subnormal", "+normal", "+inf", "+snan", "+qnan"
+};
+
+static const char *single_class(uint32_t x)
+{
+    uint32_t size = x & 0x7FFFFFFF;
+    unsigned n = size == 0 ? 0 : size < 0x800000 ? 1 : size < 0x7F800000 ? 2 : size == 0x7F800000 ? 3 : size < 0x7FC00000 ? 4 : 5;
+    return single_classes[x >> 31 ? 5 - n : 6 + n];
+}
+
+static const char *const edges[] = { "0", "1", "greatest", "least", "ones", "other" };
+
+/* Of the low `width` bits: 0, 1, 7F.., 80.., FF.. */
+static const char *edge(uint32_t x, unsigned width)
+{
+    uint32_t ones = low_bits(width);
+    return x == 0 ? edges[0] : x == 1 ? edges[1] : x == ones >> 1 ? edges[2] : x == (ones >> 1) + 1 ? edges[3] : x == ones ? edges[4] : edges[5];
+}
+
+static const char *order_name(unsigned order)
+{
+    return order == LESS ? "<" : order == EQUAL ? "=" : order == GREATER ? ">" : "?";
+}
+
+static const char *const part_names[] = { "b0", "b1", "b2", "b3", "h0", "h1", "none" };
+
+static const char *part_name(Part part)
+{
+    return part_names[part.width == 32 ? 6 : part.width == 16 ? 4 + part.shift / 16 : part.shift / 8];
+}
+
+static const char *const place_kinds[] = { "p", "p|q", "p|_", "_|q" };
+static const char *const faults[] = { "negated", "pair", "%r", "%rd", "%p", "selector" };
+static const char *const roles[] = { "d", "a", "b", "c", "guard", "second" };
+
+static bool is_scalar(Word op) { return op >= W_VADD && op <= W_VSET; }
+
+/* ---- what can occur, from document 01 ---- */
+
+static void declare_heads(void)
+{
+    static const Word set_types[] = { W_U32, W_S32, W_F32 };
+    char bool_ops[4][8] = { "", ".and", ".or", ".xor" }, op2s[4][8] = { "", ".add", ".min", ".max" };
+    for (int d = W_U32; d <= W_S32; d++)
+        for (int a = W_U32; a <= W_S32; a++)
+            for (int o = 0; o < 4; o++) {
+                for (int op = W_VADD; op <= W_VMAX; op++)
+                    for (int b = W_U32; b <= W_S32; b++)
+                        for (int sat = 0; sat < 2; sat++)
+                            kind("head: %s.%s.%s.%s%s%s", spelling[op], spelling[d], spelling[a], spelling[b], sat ? ".sat" : "", op2s[o]);
+                for (int op = W_VSET; op <= W_VSET4; op++)
+                    for (int cmp = W_EQ; cmp <= W_GE; cmp++)
+                        if (op == W_VSET || o < 2)
+                            kind("head: %s.%s.%s.%s%s", spelling[op], spelling[d], spelling[a], spelling[cmp], op2s[o]);
+            }
+    for (int s = W_U32; s <= W_F64; s++) {
+        kind("head: selp.%s", spelling[s]);
+        kind("head: slct.%s.s32", spelling[s]);
+        kind("head: slct.%s.f32", spelling[s]);
+        kind("head: slct.ftz.%s.f32", spelling[s]);
+        for (int cmp = W_EQ; cmp <= W_NAN; cmp++)
+            for (int o = 0; o < 4; o++)
+                for (int ftz = 0; ftz < (s == W_F32 ? 2 : 1); ftz++) {
+                    if (!compares((Word)cmp, (Word)s))
+                        continue;
+                    kind("head: setp.%s%s%s.%s", spelling[cmp], bool_ops[o], ftz ? ".ftz" : "", spelling[s]);
+                    for (unsigned d = 0; d < 3; d++)
+                        kind("head: set.%s%s%s.%s.%s", spelling[cmp], bool_ops[o], ftz ? ".ftz" : "", spelling[set_types[d]], spelling[s]);
+                }
+    }
+}
+
+static void declare_values(void)
+{
+    static const unsigned widths[] = { 8, 16, 32 };
+    for (int op = W_VADD; op <= W_VSET; op++) {
+        for (int x = 0; x < 6; x++)
+            for (int y = 0; y < 6; y++)
+                kind("words: %s %s %s", spelling[op], edges[x], edges[y]);
+        for (int t = W_U32; t <= W_S32; t++) {
+            for (int w = 0; w < 3; w++) {
+                for (int x = 0; x < 6; x++)
+                    for (int ab = 1; ab < 3; ab++)
+                        kind("part value: %s %s %s %u bits %s", spelling[op], roles[ab], spelling[t], widths[w], edges[x]);
+                if (op == W_VSET)
+                    continue;
+                kind("sat: %s.%s %u bits within", spelling[op], spelling[t], widths[w]);
+                if (op != W_VABSDIFF && !(widths[w] == 32 && t == W_S32 && (op == W_VMIN || op == W_VMAX)))
+                    kind("sat: %s.%s %u bits below", spelling[op], spelling[t], widths[w]);
+                if (!(widths[w] == 32 && t == W_U32 && (op == W_VMIN || op == W_VMAX)))
+                    kind("sat: %s.%s %u bits above", spelling[op], spelling[t], widths[w]);
+            }
+            if (op == W_VSET && t == W_S32)
+                continue;       /* vset reads c as u32 alone */
+            for (int o = W_MIN; o <= W_MAX; o++) {
+                kind("OP2: %s.%s %s keeps c", spelling[op], spelling[t], spelling[o]);
+                kind("OP2: %s.%s %s keeps the result", spelling[op], spelling[t], spelling[o]);
+            }
+            kind("OP2: %s.%s add within 32 bits", spelling[op], spelling[t]);
+            kind("OP2: %s.%s add beyond 32 bits", spelling[op], spelling[t]);
+        }
+    }
+    for (int op = W_VSET; op <= W_VSET4; op++)
+        for (int a = W_U32; a <= W_S32; a++)
+            for (int b = W_U32; b <= W_S32; b++)
+                for (int cmp = W_EQ; cmp <= W_GE; cmp++)
+                    for (unsigned o = LESS; o <= GREATER; o *= 2)
+                        kind("video order: %s.%s.%s.%s %s", spelling[op], spelling[a], spelling[b], spelling[cmp], order_name(o));
+    for (int x = 0; x < 12; x++)
+        for (int y = 0; y < 12; y++)
+            for (int ftz = 0; ftz < 2; ftz++)
+                kind("singles: %s%s %s", ftz ? "ftz " : "", single_classes[x], single_classes[y]);
+    for (int s = W_U32; s <= W_B32; s++)
+        for (int x = 0; x < 6 && s != W_F32; x++)
+            for (int y = 0; y < 6; y++)
+                kind("compared words: %s %s %s", spelling[s], edges[x], edges[y]);
+    /* a listing can but copy %rd, so its doubles are 0 to 31 as bits: never NaN, infinite, normal or negative */
+    for (int op = W_SET; op <= W_SETP; op++)
+        for (int s = W_U32; s <= W_F64; s++)
+            for (int cmp = W_EQ; cmp <= W_NAN; cmp++)
+                for (unsigned o = LESS; o <= (s == W_F32 ? UNORDERED : GREATER); o *= 2)
+                    if (compares((Word)cmp, (Word)s))
+                        kind("order: %s.%s.%s %s", spelling[op], spelling[cmp], spelling[s], order_name(o));
+    for (int d = W_U32; d <= W_F64; d++) {
+        kind("slct: %s.s32 below zero", spelling[d]);
+        kind("slct: %s.s32 zero", spelling[d]);
+        kind("slct: %s.s32 above zero", spelling[d]);
+        for (int x = 0; x < 12; x++)
+            for (int ftz = 0; ftz < 2; ftz++)
+                kind("slct: %s%s.f32 %s", ftz ? "ftz." : "", spelling[d], single_classes[x]);
+        kind("selp: %s 0", spelling[d]);
+        kind("selp: %s 1", spelling[d]);
+    }
+}
+
+static void declare_operands(void)
+{
+    for (int op = W_VADD; op <= W_SLCT; op++) {
+        kind("guard: %s none", spelling[op]);
+        for (int taken = 0; taken < 2; taken++) {
+            kind("guard: %s @ %s", spelling[op], taken ? "done" : "skipped");
+            kind("guard: %s @! %s", spelling[op], taken ? "done" : "skipped");
+        }
+    }
+    for (int op = W_VADD; op <= W_VSET; op++) {
+        kind("form: %s plain", spelling[op]);
+        kind("form: %s merge", spelling[op]);
+        kind("form: %s OP2", spelling[op]);
+        for (int p = 0; p < 7; p++)
+            for (int role = 0; role < 3; role++)
+                kind("selector: %s %s %s", spelling[op], roles[role], part_names[p]);
+    }
+    for (int lanes = 2; lanes <= 4; lanes += 2) {
+        for (int add = 0; add < 2; add++)
+            for (int mask = 1; mask < 1 << lanes; mask++) {
+                kind("mask: vset%d%s %X", lanes, add ? " add" : "", mask);
+                if (mask == (1 << lanes) - 1)
+                    kind("mask: vset%d%s full, written", lanes, add ? " add" : "");
+            }
+        for (int named = 1; named <= lanes; named++)
+            for (int hold = 0; hold <= named; hold++)
+                kind("lanes: vset%d add, %d of %d hold", lanes, hold, named);
+        kind("lanes: vset%d add past 2^32", lanes);
+        for (int role = 1; role < 3; role++) {
+            kind("lane selector: vset%d %s bare", lanes, roles[role]);
+            kind("lane selector: vset%d %s default, written", lanes, roles[role]);
+            for (int lane = 0; lane < lanes; lane++)
+                for (int part = 0; part < 2 * lanes; part++)
+                    kind("lane selector: vset%d %s lane %d part %d", lanes, roles[role], lane, part);
+        }
+    }
+    for (int kinds_of = 0; kinds_of < 4; kinds_of++) {
+        kind("setp places: %s", place_kinds[kinds_of]);
+        for (int o = W_AND; o <= W_XOR; o++)
+            for (int i = 0; i < 8; i++)
+                kind("setp places: %s %s t=%d c=%d%s", place_kinds[kinds_of], spelling[o], i & 1, i >> 1 & 1, i >> 2 ? " !" : "");
+    }
+    for (int o = W_AND; o <= W_XOR; o++)
+        for (int i = 0; i < 8; i++)
+            kind("set: %s t=%d c=%d%s", spelling[o], i & 1, i >> 1 & 1, i >> 2 ? " !" : "");
+    kind("same register: setp first and c");
+    kind("same register: setp second and c");
+    kind("same register: setp first and guard");
+    kind("same register: setp second and guard");
+    for (int op = W_VADD; op <= W_SLCT; op++) {
+        kind("same register: %s a and b", spelling[op]);
+        if (op != W_SETP) {
+            kind("same register: %s d and a", spelling[op]);
+            kind("same register: %s d and b", spelling[op]);
+        }
+        if (op <= W_VSET4 || op == W_SLCT)
+            kind("same register: %s d and c", spelling[op]);
+    }
+    for (int role = 0; role < 6; role++) {
+        for (int n = 0; n < R_COUNT && role < 4; n++)
+            kind("number: %%r%d as %s", n, roles[role]);
+        for (int n = 0; n < RD_COUNT && role < 3; n++)
+            kind("number: %%rd%d as %s", n, roles[role]);
+        for (int n = 0; n < P_COUNT; n++)
+            if (role != 1 && role != 2)
+                kind("number: %%p%d as %s", n, roles[role]);
+    }
+}
+
+/* Whether an operand of that file, bare, is never at fault there. */
+static bool is_right(int op, int role, int fault)
+{
+    bool video = op <= W_VSET4;
+    return (fault == 2 && ((video && (role > 0 || op >= W_VSET2)) || (op == W_SET && role == 0) || (op == W_SLCT && role == 3))) ||
+           (fault == 4 && ((op == W_SETP && role == 0) || (op >= W_SET && op <= W_SELP && role == 3)));
+}
+
+static void declare_lines(void)
+{
+    kind("answer: done");
+    kind("answer: skipped");
+    for (int n = 1; n <= 7; n++)
+        kind("answer: refused %d", n);
+    for (int length = 158; length <= 160; length++)
+        for (int n = 0; n <= 7; n++)
+            if (n != 1)
+                kind(n == 0 ? "length: %d accepted" : "length: %d refused %d", length, n);
+    for (int length = 161; length <= 162; length++) {
+        kind("length: %d, of the right shape", length);
+        kind("length: %d, of no shape", length);
+    }
+    kind("length: empty line");
+    kind("length: blanks alone");
+    kind("length: last line without line feed accepted");
+    kind("length: last line without line feed refused");
+    kind("blank: tab in an accepted line");
+    kind("blank: in front");
+    kind("blank: at the end");
+    kind("blank: none behind a comma");
+    kind("blank: in front of a comma");
+    for (int byte = 0; byte < 256; byte++)
+        if (byte != '\n')
+            kind("one byte too many: %02X", byte);
+    for (int op = W_VADD; op <= W_SLCT; op++) {
+        if (op != W_SELP)
+            kind("refused 4: %s two modifiers swapped", spelling[op]);
+        kind("refused 4: %s one modifier too many", spelling[op]);
+        kind("refused 4: %s one modifier missing", spelling[op]);
+        kind("refused 4: %s one modifier of another kind", spelling[op]);
+        kind("refused 4: %s no modifier", spelling[op]);
+        for (int n = 1; n <= 5; n++)
+            if (op >= W_SET && op <= W_SETP ? true : op <= W_VSET ? n != 3 : n != 4)
+                kind("refused 5: %s with %d operands", spelling[op], n);
+        if (op <= W_VSET)
+            kind("refused 5: %s d with selector, no c", spelling[op]);
+        kind("refused 5: %s guard no predicate", spelling[op]);
+        for (int role = 0; role < 4; role++)
+            for (int f = 0; f < 6; f++)
+                if (!is_right(op, role, f))
+                    kind("refused 5: %s %s is %s", spelling[op], roles[role], faults[f]);
+        kind("refused 6: %s", spelling[op]);
+    }
+    kind("refused 5: setp _|_");
+    for (int role = 0; role < 6; role++) {
+        if (role < 4)
+            kind("refused 6: %%r64 as %s", roles[role]);
+        if (role < 3)
+            kind("refused 6: %%rd32 as %s", roles[role]);
+        if (role != 1 && role != 2)
+            kind("refused 6: %%p16 as %s", roles[role]);
+    }
+    for (int n = 3; n <= 5; n++)
+        kind("two faults: refused %d, a number too great", n);
+    for (int n = 4; n <= 6; n++)
+        kind("two faults: refused %d, one predicate twice", n);
+    kind("two faults: refused 3, guard no predicate");
+    kind("two faults: refused 4, guard no predicate");
+}
+
+/* ---- counting ---- */
+
+static void count_scalar(const Machine *m, const Record *rec)
+{
+    const char *op = spelling[rec->op];
+    uint32_t wa = m->r[rec->a], wb = m->r[rec->b];
+    int64_t x = part_number(wa, rec->apart, rec->atype), y = part_number(wb, rec->bpart, rec->btype);
+    hit("form: %s %s", op, rec->second != W_NONE ? "OP2" : rec->dpart.width < 32 ? "merge" : "plain");
+    hit("selector: %s d %s", op, part_name(rec->dpart));
+    hit("selector: %s a %s", op, part_name(rec->apart));
+    hit("selector: %s b %s", op, part_name(rec->bpart));
+    if (rec->apart.width == 32 && rec->bpart.width == 32)
+        hit("words: %s %s %s", op, edge(wa, 32), edge(wb, 32));
+    hit("part value: %s a %s %u bits %s", op, spelling[rec->atype], rec->apart.width, edge(wa >> rec->apart.shift & low_bits(rec->apart.width), rec->apart.width));
+    hit("part value: %s b %s %u bits %s", op, spelling[rec->btype], rec->bpart.width, edge(wb >> rec->bpart.shift & low_bits(rec->bpart.width), rec->bpart.width));
+
+    int64_t n = rec->op == W_VADD ? x + y : rec->op == W_VSUB ? x - y : rec->op == W_VABSDIFF ? (x < y ? y - x : x - y)
+              : rec->op == W_VMIN ? least(x, y) : rec->op == W_VMAX ? greatest(x, y) : (order_signed(x, y) & accepts[rec->cmp]) != 0;
+    if (rec->op == W_VSET)
+        hit("video order: %s.%s.%s.%s %s", op, spelling[rec->atype], spelling[rec->btype], spelling[rec->cmp], order_name(order_signed(x, y)));
+    if (rec->sat) {
+        int64_t in = clamp(n, rec->dtype, rec->dpart.width);
+        hit("sat: %s.%s %u bits %s", op, spelling[rec->dtype], rec->dpart.width, in > n ? "below" : in < n ? "above" : "within");
+        n = in;
+    }
+    int64_t c = number_of(m->r[rec->c], 32, rec->dtype);
+    if (rec->second == W_ADD)
+        hit("OP2: %s.%s add %s 32 bits", op, spelling[rec->dtype], clamp(n + c, rec->dtype, 32) == n + c ? "within" : "beyond");
+    else if (rec->second != W_NONE)
+        hit("OP2: %s.%s %s keeps %s", op, spelling[rec->dtype], spelling[rec->second], (rec->second == W_MIN ? c < n : c > n) ? "c" : "the result");
+}
+
+static void count_lanes(const Machine *m, const Record *rec, const Line *line)
+{
+    unsigned lanes = rec->op == W_VSET2 ? 2 : 4, width = 32 / lanes, named = 0, hold = 0;
+    bool add = rec->second == W_ADD;
+    uint64_t parts = (uint64_t)m->r[rec->b] << 32 | m->r[rec->a];
+    if (line->operand[0].selector != 0 && rec->mask == (1u << lanes) - 1)
+        hit("mask: vset%u%s full, written", lanes, add ? " add" : "");
+    else
+        hit("mask: vset%u%s %X", lanes, add ? " add" : "", rec->mask);
+    for (unsigned role = 1; role < 3; role++) {
+        const Operand *o = &line->operand[role];
+        if (o->selector == 0)
+            hit("lane selector: vset%u %s bare", lanes, roles[role]);
+        else if (o->text.length == o->bare)
+            hit("lane selector: vset%u %s default, written", lanes, roles[role]);
+        else
+            for (unsigned i = 0; i < lanes; i++)
+                hit("lane selector: vset%u %s lane %u part %u", lanes, roles[role], i, (role == 1 ? rec->asel : rec->bsel)[i]);
+    }
+    for (unsigned i = 0; i < lanes; i++) {
+        if ((rec->mask >> i & 1) == 0)
+            continue;
+        unsigned order = order_signed(number_of((uint32_t)(parts >> width * rec->asel[i]) & low_bits(width), width, rec->atype),
+                                      number_of((uint32_t)(parts >> width * rec->bsel[i]) & low_bits(width), width, rec->btype));
+        hit("video order: vset%u.%s.%s.%s %s", lanes, spelling[rec->atype], spelling[rec->btype], spelling[rec->cmp], order_name(order));
+        named++;
+        hold += (order & accepts[rec->cmp]) != 0;
+    }
+    if (add) {
+        hit("lanes: vset%u add, %u of %u hold", lanes, hold, named);
+        if (m->r[rec->c] + hold < m->r[rec->c])
+            hit("lanes: vset%u add past 2^32", lanes);
+    }
+}
+
+static void count_comparison(const Machine *m, const Record *rec, const Line *line)
+{
+    uint32_t x = m->r[rec->a % R_COUNT], y = m->r[rec->b % R_COUNT];
+    unsigned order;
+    if (is_wide(rec->atype)) {
+        order = order_unsigned(m->rd[rec->a], m->rd[rec->b]);
+    } else if (rec->atype == W_F32) {
+        hit("singles: %s%s %s", rec->ftz ? "ftz " : "", single_class(x), single_class(y));
+        order = order_float(rec->ftz ? flush(x) : x, rec->ftz ? flush(y) : y, 0x80000000, 0x7F800000);
+    } else {
+        hit("compared words: %s %s %s", spelling[rec->atype], edge(x, 32), edge(y, 32));
+        order = order_signed(number_of(x, 32, rec->atype), number_of(y, 32, rec->atype));
+    }
+    hit("order: %s.%s.%s %s", spelling[rec->op], spelling[rec->cmp], spelling[rec->atype], order_name(order));
+    bool t = (order & accepts[rec->cmp]) != 0;
+    if (rec->op == W_SET) {
+        if (rec->second != W_NONE)
+            hit("set: %s t=%d c=%d%s", spelling[rec->second], t, m->p[rec->c], rec->c_negated ? " !" : "");
+        return;
+    }
+    const char *places = place_kinds[line->operand[0].form != PAIR ? 0 : rec->p == DROPPED ? 3 : rec->q == DROPPED ? 2 : 1];
+    hit("setp places: %s", places);
+    if (rec->guarded && rec->guard == rec->p)
+        hit("same register: setp first and guard");
+    if (rec->guarded && rec->guard == rec->q)
+        hit("same register: setp second and guard");
+    if (rec->second == W_NONE)
+        return;
+    hit("setp places: %s %s t=%d c=%d%s", places, spelling[rec->second], t, m->p[rec->c], rec->c_negated ? " !" : "");
+    if (rec->c == rec->p)
+        hit("same register: setp first and c");
+    if (rec->c == rec->q)
+        hit("same register: setp second and c");
+}
+
+static void count_registers(const Line *line, const Record *rec)
+{
+    static const char *const files[] = { "%r", "%rd", "%p" };
+    if (line->guarded)
+        hit("number: %%p%u as guard", line->guard.number);
+    for (unsigned i = 0; i < line->operands; i++) {
+        const Operand *o = &line->operand[i];
+        if (o->first.file != SINK)
+            hit("number: %s%u as %s", files[o->first.file], o->first.number, roles[i]);
+        if (o->form == PAIR && o->second.file != SINK)
+            hit("number: %%p%u as second", o->second.number);
+    }
+    if (rec->a == rec->b)
+        hit("same register: %s a and b", spelling[rec->op]);
+    if (rec->op != W_SETP && rec->d == rec->a)
+        hit("same register: %s d and a", spelling[rec->op]);
+    if (rec->op != W_SETP && rec->d == rec->b)
+        hit("same register: %s d and b", spelling[rec->op]);
+    if (line->operands == 4 && rec->d == rec->c && (rec->op <= W_VSET4 || (rec->op == W_SLCT && !is_wide(rec->dtype))))
+        hit("same register: %s d and c", spelling[rec->op]);
+}
+
+/* A line that was read: what its record is, and the values that it is executed on. */
+static void count_accepted(const Machine *m, const Line *line, const Record *rec)
+{
+    bool taken = !rec->guarded || (m->p[rec->guard] != 0) != rec->guard_negated;
+    hit("answer: %s", taken ? "done" : "skipped");
+    if (rec->guarded)
+        hit("guard: %s @%s %s", spelling[rec->op], rec->guard_negated ? "!" : "", taken ? "done" : "skipped");
+    else
+        hit("guard: %s none", spelling[rec->op]);
+    count_registers(line, rec);
+    if (!taken)
+        return;
+    hit("head: %.*s", (int)line->head.length, (const char *)line->head.at);
+    if (is_scalar(rec->op))
+        count_scalar(m, rec);
+    else if (rec->op == W_VSET2 || rec->op == W_VSET4)
+        count_lanes(m, rec, line);
+    else if (rec->op == W_SET || rec->op == W_SETP)
+        count_comparison(m, rec, line);
+    else if (rec->op == W_SELP)
+        hit("selp: %s %d", spelling[rec->dtype], m->p[rec->c]);
+    else if (rec->btype == W_F32)
+        hit("slct: %s%s.f32 %s", rec->ftz ? "ftz." : "", spelling[rec->dtype], single_class(m->r[rec->c]));
+    else
+        hit("slct: %s.s32 %s", spelling[rec->dtype], m->r[rec->c] == 0 ? "zero" : m->r[rec->c] >> 31 ? "below zero" : "above zero");
+}
+
+/* ---- lines that are refused: how near they are to a line that is read ---- */
+
+static Operand operand_of(Form form, File first, File second, Key selector)
+{
+    Operand o = { form, { first, 0 }, { second, 1 }, selector, 3, { NULL, 3 } };
+    return o;
+}
+
+/* Whether some operand in place of the one at `at` would have the operands read. */
+static bool mended_by_operand(const Line *line, const Record *rec, unsigned at)
+{
+    const Operand tries[] = {
+        operand_of(PLAIN, FILE_R, FILE_R, 0), operand_of(PLAIN, FILE_RD, FILE_R, 0), operand_of(PLAIN, FILE_P, FILE_R, 0),
+        operand_of(PLAIN, FILE_R, FILE_R, 'b' | '0' << 8)
+    };
+    for (unsigned i = 0; i < sizeof tries / sizeof tries[0]; i++) {
+        Line copy = *line;
+        Record other = *rec;
+        copy.operand[at] = tries[i];
+        if (read_record_operands(&copy, &other))
+            return true;
+    }
+    return false;
+}
+
+static void count_wrong_operands(const Line *line, const Record *rec)
+{
+    const char *op = spelling[rec->op];
+    Line copy = *line;
+    Record other = *rec;
+    if (line->guarded && line->guard.file != FILE_P) {
+        hit("refused 5: %s guard no predicate", op);
+        return;
+    }
+    unsigned n = line->operands > 5 ? 5 : line->operands;
+    bool scalar = is_scalar(rec->op), either = scalar || rec->op == W_SET || rec->op == W_SETP;
+    if (n < 3 || n > 4 || (n == 3 && !either)) {
+        hit("refused 5: %s with %u operands", op, n);
+        return;
+    }
+    if (n == 3 && scalar && rec->second == W_NONE && line->operand[0].selector != 0) {
+        copy.operand[0].selector = 0;
+        if (read_record_operands(&copy, &other))
+            hit("refused 5: %s d with selector, no c", op);
+    }
+    if (!scalar && either && (n == 4) != (rec->second != W_NONE)) {
+        hit("refused 5: %s with %u operands", op, n);
+        return;
+    }
+    if (scalar && n == 4 && rec->second == W_NONE && line->operand[0].selector == 0) {
+        copy.operands = 3;
+        if (read_record_operands(&copy, &other))
+            hit("refused 5: %s with 4 operands", op);
+    }
+    for (unsigned i = 0; i < n; i++) {
+        const Operand *o = &line->operand[i];
+        if (!mended_by_operand(line, rec, i))
+            continue;
+        if (rec->op == W_SETP && o->form == PAIR && o->first.file == SINK && o->second.file == SINK)
+            hit("refused 5: setp _|_");
+        hit("refused 5: %s %s is %s", op, roles[i], faults[o->form == NEGATED ? 0 : o->form == PAIR ? 1 : o->selector != 0 ? 5 : 2 + (unsigned)o->first.file]);
+    }
+}
+
+static bool modifiers_read(Line *line)
+{
+    Record rec;
+    memset(&rec, 0, sizeof rec);
+    rec.op = line->name[0];
+    return read_modifiers(line, &rec);
+}
+
+static void count_wrong_modifiers(const Line *line)
+{
+    const char *op = spelling[line->name[0]];
+    unsigned n = line->names;
+    bool swapped = false, dropped = false, missing = false, other = false;
+    if (n == 1)
+        hit("refused 4: %s no modifier", op);
+    if (n > NAMES_KEPT)
+        return;
+    for (unsigned i = 1; i < n; i++) {
+        for (unsigned j = i + 1; j < n; j++) {
+            Line copy = *line;
+            copy.name[i] = line->name[j];
+            copy.name[j] = line->name[i];
+            swapped = swapped || modifiers_read(&copy);
+        }
+        Line copy = *line;
+        memmove(copy.name + i, copy.name + i + 1, (NAMES_KEPT - i) * sizeof copy.name[0]);
+        copy.names--;
+        dropped = dropped || modifiers_read(&copy);
+        for (int w = W_U32; w < WORD_COUNT; w++) {
+            copy = *line;
+            copy.name[i] = (Word)w;
+            other = other || modifiers_read(&copy);
+        }
+    }
+    for (unsigned i = 1; i <= n && n < NAMES_KEPT; i++)
+        for (int w = W_U32; w < WORD_COUNT; w++) {
+            Line copy = *line;
+            memmove(copy.name + i + 1, copy.name + i, (NAMES_KEPT - i) * sizeof copy.name[0]);
+            copy.name[i] = (Word)w;
+            copy.names++;
+            missing = missing || modifiers_read(&copy);
+        }
+    if (swapped && line->name[0] != W_SELP)
+        hit("refused 4: %s two modifiers swapped", op);
+    if (dropped)
+        hit("refused 4: %s one modifier too many", op);
+    if (missing)
+        hit("refused 4: %s one modifier missing", op);
+    if (other)
+        hit("refused 4: %s one modifier of another kind", op);
+}
+
+static void count_great_number(const Line *line, const Record *rec)
+{
+    static const char *const first_over[] = { "%r64", "%rd32", "%p16" };
+    static const unsigned sizes[] = { R_COUNT, RD_COUNT, P_COUNT };
+    hit("refused 6: %s", spelling[rec->op]);
+    if (line->guarded && line->guard.number == P_COUNT)
+        hit("refused 6: %%p16 as guard");
+    for (unsigned i = 0; i < line->operands; i++) {
+        const Operand *o = &line->operand[i];
+        if (o->first.file != SINK && o->first.number == sizes[o->first.file])
+            hit("refused 6: %s as %s", first_over[o->first.file], roles[i]);
+        if (o->form == PAIR && o->second.file != SINK && o->second.number == P_COUNT)
+            hit("refused 6: %%p16 as second");
+    }
+}
+
+/* The faults that a refusal given earlier hides. */
+static void count_two_faults(const Line *line, Refusal refusal)
+{
+    Line copy = *line;
+    if (copy.operands > OPERANDS_KEPT)
+        copy.operands = OPERANDS_KEPT;
+    if (refusal >= NO_OPCODE && refusal <= BAD_OPERANDS && !numbers_fit(&copy))
+        hit("two faults: refused %d, a number too great", refusal);
+    if (refusal <= BAD_MODIFIERS && refusal >= NO_OPCODE && line->guarded && line->guard.file != FILE_P)
+        hit("two faults: refused %d, guard no predicate", refusal);
+    const Operand *d = &line->operand[0];
+    if (refusal >= BAD_MODIFIERS && refusal <= BAD_NUMBER && line->name[0] == W_SETP && d->form == PAIR &&
+        d->first.file == FILE_P && d->second.file == FILE_P && d->first.number == d->second.number)
+        hit("two faults: refused %d, one predicate twice", refusal);
+}
+
+/* Whether the line is read once a byte is gone; then the byte is counted. */
+static void count_byte_too_many(const Byte *p, size_t length)
+{
+    for (size_t i = 0; i < length; i++) {
+        Byte copy[LINE_MOST + 1];
+        Line line;
+        Record rec;
+        if (i > 0 && p[i] == p[i - 1])
+            continue;
+        memcpy(copy, p, i);
+        memcpy(copy + i, p + i + 1, length - i - 1);
+        copy[length - 1] = '\n';
+        if (read_line(copy, length - 1, &line, &rec) == ACCEPTED) {
+            hit("one byte too many: %02X", p[i]);
+            return;
+        }
+    }
+}
+
+static void count_refused(const Byte *p, size_t length, const Line *line, const Record *rec, Refusal refusal)
+{
+    Line any;
+    hit("answer: refused %d", refusal);
+    switch (refusal) {
+    case TOO_LONG:
+        if (length <= 162)
+            hit("length: %u, of %s shape", (unsigned)length, read_shape(p, &any) ? "the right" : "no");
+        return;
+    case NO_SHAPE:
+        if (length == 0)
+            hit("length: empty line");
+        else if (*skip_blanks(p) == '\n')
+            hit("length: blanks alone");
+        break;
+    case BAD_MODIFIERS:
+        count_wrong_modifiers(line);
+        break;
+    case BAD_OPERANDS:
+        count_wrong_operands(line, rec);
+        break;
+    case BAD_NUMBER:
+        count_great_number(line, rec);
+        break;
+    default:
+        break;
+    }
+    if (refusal != NO_SHAPE)
+        count_two_faults(line, refusal);
+    if (length >= 158)
+        hit("length: %u refused %d", (unsigned)length, refusal);
+    if (length > 0)
+        count_byte_too_many(p, length);
+}
+
+static void count_blanks(const Byte *p, size_t length)
+{
+    if (length >= 158)
+        hit("length: %u accepted", (unsigned)length);
+    if (memchr(p, '\t', length) != NULL)
+        hit("blank: tab in an accepted line");
+    if (is_blank(p[0]))
+        hit("blank: in front");
+    if (is_blank(p[length - 1]))
+        hit("blank: at the end");
+    const Byte *comma = memchr(p, ',', length);
+    if (is_blank(comma[-1]))
+        hit("blank: in front of a comma");
+    if (!is_blank(comma[1]))
+        hit("blank: none behind a comma");
+}
+
+static void count_listing(const char *name)
+{
+    static Byte input[INPUT_MOST + 1];
+    Machine m = { { 0 }, { 0 }, { 0 } };
+    FILE *file = fopen(name, "rb");
+    if (file == NULL)
+        stop("cannot be read", name);
+    size_t size = fread(input, 1, sizeof input, file);
+    fclose(file);
+    if (size > INPUT_MOST)
+        stop("too long", name);
+    const Byte *p = input, *end = input + size;
+    input[size] = '\n';
+    for (unsigned n = 0; n < R_COUNT; n++)
+        m.r[n] = start_r(n);
+    for (unsigned n = 0; n < RD_COUNT; n++)
+        m.rd[n] = start_rd(n);
+    while (p < end) {
+        Line line;
+        Record rec;
+        memset(&rec, 0, sizeof rec);
+        const Byte *feed = memchr(p, '\n', (size_t)(end - p) + 1);
+        size_t length = (size_t)(feed - p);
+        Refusal refusal = read_line(p, length, &line, &rec);
+        if (feed == end)
+            hit("length: last line without line feed %s", refusal == ACCEPTED ? "accepted" : "refused");
+        if (refusal == ACCEPTED) {
+            count_accepted(&m, &line, &rec);
+            count_blanks(p, length);
+            execute(&m, &rec);
+        } else {
+            count_refused(p, length, &line, &rec, refusal);
+        }
+        p = feed + 1;
+    }
+}
+
+/* ---- the tally ---- */
+
+static void read_tally(const char *name)
+{
+    char line[NAME_MOST + 32];
+    FILE *file = fopen(name, "r");
+    if (file == NULL)
+        return;                 /* the first listing of a tally */
+    while (fgets(line, sizeof line, file) != NULL) {
+        char *rest;
+        line[strcspn(line, "\n")] = '\0';
+        unsigned long count = strtoul(line, &rest, 10);
+        unsigned *slot = slot_of(rest + 1);
+        if (*slot == 0)
+            stop("not a kind", rest + 1);
+        kinds[*slot - 1].count += count;
+    }
+    fclose(file);
+}
+
+static void write_tally(const char *name)
+{
+    FILE *file = fopen(name, "w");
+    if (file == NULL)
+        stop("cannot be written", name);
+    for (unsigned i = 0; i < kind_count; i++)
+        fprintf(file, "%lu %s\n", kinds[i].count, kinds[i].name);
+    if (fclose(file) != 0)
+        stop("cannot be written", name);
+}
+
+static size_t group_length(const Kind *k) { return (size_t)(strchr(k->name, ':') - k->name); }
+
+static bool same_group(const Kind *x, const Kind *y)
+{
+    size_t length = group_length(x);
+    return length == group_length(y) && memcmp(x->name, y->name, length) == 0;
+}
+
+/* One line for each group, then the kinds that never occurred. */
+static unsigned report(void)
+{
+    unsigned never = 0;
+    for (unsigned i = 0; i < kind_count; i++) {
+        unsigned all = 0, seen = 0, before = 0;
+        const Kind *rarest = &kinds[i];
+        while (before < i && !same_group(&kinds[before], &kinds[i]))
+            before++;
+        if (before < i)
+            continue;
+        for (unsigned j = i; j < kind_count; j++)
+            if (same_group(&kinds[i], &kinds[j])) {
+                all++;
+                seen += kinds[j].count > 0;
+                if (kinds[j].count < rarest->count)
+                    rarest = &kinds[j];
+            }
+        printf("%5u of %5u kinds of %.*s, rarest %lu times:%s\n", seen, all, (int)group_length(&kinds[i]), kinds[i].name,
+               rarest->count, rarest->name + group_length(rarest) + 1);
+        never += all - seen;
+    }
+    for (unsigned i = 0; i < kind_count; i++)
+        if (kinds[i].count == 0)
+            printf("never: %s\n", kinds[i].name);
+    printf("%u of %u kinds never occurred\n", never, kind_count);
+    return never;
+}
+
+int main(int argc, char **argv)
+{
+    if (argc < 2)
+        stop("usage", "coverage TALLY [LISTING..]");
+    fill_dictionary();
+    declare_lines();
+    declare_heads();
+    declare_operands();
+    declare_values();
+    read_tally(argv[1]);
+    if (argc == 2)
+        return report() > 0;
+    for (int i = 2; i < argc; i++)
+        count_listing(argv[i]);
+    write_tally(argv[1]);
+    return 0;
+}
