@@ -1,0 +1,9 @@
+typedef __INT32_TYPE__ int32_t;
+typedef __INT64_TYPE__ int64_t;
+typedef __UINT32_TYPE__ uint32_t;
+typedef __UINT64_TYPE__ uint64_t;
+#define INT64_C(x) x##l
+#define UINT32_C(x) x##u
+#define UINT64_C(x) x##ul
+#define UINT32_MAX UINT32_C(0xFFFFFFFF)
+#define UINT64_MAX UINT64_C(0xFFFFFFFFFFFFFFFF)
