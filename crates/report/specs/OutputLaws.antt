@@ -1,0 +1,262 @@
+-- Every listing has one output, and calls of `some_lines` until the listing ends, followed by the registers, print it. Assumes nothing.
+use Prim.Native.Nat.{ℕ, zero, suc, _+_, _-_, _%_, _^_, _≤_, _<_}
+use native.Mathlib.Nat.{add-zero, mod-eq-of-lt}
+use native.Mathlib.Numerals.{add-one}
+use native.Mathlib.Omega.{arith}
+use mathlib.Core.Path.{_≡_, refl, sym, ap, ap₂, _∙_, subst}
+use mathlib.Core.Bool.{Bool, true, false, cond}
+use mathlib.Core.List.{List, [], _∷_, _++_, append-assoc, append-nil}
+use lib.ListN.{length, take, drop, length-append, length-drop, drop-of-length-le}
+use lib.Seq.{drop-drop, append-snoc}
+use lib.Dec.{eqb, ltb}
+use borrow.Author.Tests.{ltb-true, ltb-false}
+use Rattle.rules.specs.Executing.{Files}
+use Rattle.rules.specs.Reading.{Answer, Answers}
+use Rattle.rules.specs.Writing.{front}
+use Rattle.read.specs.Mirror.{readOf}
+use Rattle.read.specs.Laws.{answers, answers-unique}
+use Rattle.report.specs.Listing.{lineFeed, lastLine, linesWith, linesOf, lineText, filesAfter, Turn, Turns, none, more, startValue, startFiles, changeText, changesText, registersText, listingLimit, tooLongText, Output, too-long, printed}
+use Rattle.report.specs.Chunks.{lineLength, lineAt, behind, nextPlace, nextNumber, lineRoom, Some, ended, no-room, one-more, Prints, Calls}
+use Rattle.report.specs.Chunks as chunks
+use Rattle.report.specs.ChunkLaws.{further-on}
+
+-- ==== every listing has an output, and no listing has two
+
+turn-of : (n : ℕ) (l : List ℕ) (f : Files) → Turn n l f (lineText n (readOf l) f) (filesAfter (readOf l) f)
+turn-of n l f = record { answer = readOf l; answers = answers l; text = refl; files = refl }
+
+-- what a line prints, and what it leaves in the files, is one thing
+pub turn-one : {n : ℕ} {l t u : List ℕ} {f g h : Files} → Turn n l f t g → Turn n l f u h → (t ≡ u) × (g ≡ h)
+turn-one {n} {l} {t} {u} {f} {g} {h} a b =
+    let e : a .answer ≡ b .answer = answers-unique l (a .answer) (b .answer) (a .answers) (b .answers) in
+    (
+      a .text ∙ ap (λ (x : Answer). lineText n x f) e ∙ sym (b .text),
+      a .files ∙ ap (λ (x : Answer). filesAfter x f) e ∙ sym (b .files),
+    )
+
+pub record AllTurns (n : ℕ) (ls : List (List ℕ)) (f : Files) : Type 0 where
+  pub text : List ℕ
+  pub files : Files
+  pub turns : Turns n ls f text files
+
+all-turns : (n : ℕ) (ls : List (List ℕ)) (f : Files) → AllTurns n ls f
+all-turns n [] f = record { text = []; files = f; turns = none }
+all-turns n (l ∷ ls) f =
+    let r = all-turns (suc n) ls (filesAfter (readOf l) f) in
+    record { text = lineText n (readOf l) f ++ r .text; files = r .files; turns = more (turn-of n l f) (r .turns) }
+
+pub turns-one : {n : ℕ} {ls : List (List ℕ)} {t u : List ℕ} {f g h : Files} → Turns n ls f t g → Turns n ls f u h → (t ≡ u) × (g ≡ h)
+turns-one none none = (refl, refl)
+turns-one (more {n = n} {ls = ls} {t = t} {u = u} a x) (more {h = h} {t = t′} {u = u′} b y) =
+    let e = turn-one a b in
+    let r = turns-one x (subst (λ (g : Files). Turns (suc n) ls g u′ h) (sym (e .1)) y) in
+    (ap₂ (λ (p q : List ℕ). p ++ q) (e .0) (r .0), r .1)
+
+pub every-listing : (s : List ℕ) → (t : List ℕ) × Output s t
+every-listing s = go (ltb listingLimit (length s)) refl
+  where
+    go : (b : Bool) → ltb listingLimit (length s) ≡ b → (t : List ℕ) × Output s t
+    go true e = (tooLongText, too-long (ltb-true listingLimit (length s) e))
+    go false e =
+        let r = all-turns 1 (linesOf s) startFiles in
+        (r .text ++ registersText (r .files), printed (ltb-false listingLimit (length s) e) (r .turns))
+
+pub one-output : {s t u : List ℕ} → Output s t → Output s u → t ≡ u
+one-output (too-long a) (too-long b) = refl
+one-output (too-long a) (printed b y) = absurd (omega arith)
+one-output (printed a x) (too-long b) = absurd (omega arith)
+one-output (printed a x) (printed b y) = let e = turns-one x y in ap₂ (λ (t : List ℕ) (g : Files). t ++ registersText g) (e .0) (e .1)
+
+-- ==== the lines, one at a time
+
+line-with : (l s : List ℕ) → 0 < length (l ++ s) → linesWith l s ≡ (l ++ take (lineLength s) s) ∷ linesOf (drop (suc (lineLength s)) s)
+unfolding linesWith lineLength
+line-with [] [] h = absurd (omega arith)
+line-with (b ∷ l) [] h = ap (λ (x : List ℕ). x ∷ []) (sym (append-nil (b ∷ l)))
+line-with l (b ∷ s) h = go (eqb b lineFeed) (line-with (l ++ (b ∷ [])) s (simp length-append (omega arith)))
+  where
+    go : (t : Bool) → linesWith (l ++ (b ∷ [])) s ≡ (l ++ (b ∷ []) ++ take (lineLength s) s) ∷ linesOf (drop (suc (lineLength s)) s)
+        → cond t (l ∷ linesWith [] s) (linesWith (l ++ (b ∷ [])) s)
+            ≡ (l ++ take (cond t 0 (suc (lineLength s))) (b ∷ s)) ∷ linesOf (drop (suc (cond t 0 (suc (lineLength s)))) (b ∷ s))
+    go true e = ap (λ (x : List ℕ). x ∷ linesOf s) (sym (append-nil l))
+    go false e = e ∙ ap (λ (x : List ℕ). x ∷ linesOf (drop (suc (lineLength s)) s)) (append-snoc l b (take (lineLength s) s))
+
+-- what follows the line begins at the next place
+behind-line : (s : List ℕ) (from k : ℕ) → drop (suc k) (drop from s) ≡ drop (behind (length s) (from + k)) s
+behind-line s from k = drop-drop (suc k) from s ∙ go (ltb (from + k) (length s)) refl
+  where
+    go : (t : Bool) → ltb (from + k) (length s) ≡ t → drop (from + suc k) s ≡ drop (cond t (from + k + 1) (from + k)) s
+    go true e = let n : from + suc k ≡ from + k + 1 = omega arith in ap (λ (i : ℕ). drop i s) n
+    go false e =
+        let h : length s ≤ from + k = ltb-false (from + k) (length s) e in
+        drop-of-length-le s {i = from + suc k} (omega arith) ∙ sym (drop-of-length-le s h)
+
+first-line : (s : List ℕ) (from : ℕ) → from < length s → linesOf (drop from s) ≡ lineAt s from ∷ linesOf (drop (nextPlace s from) s)
+first-line s from h =
+    line-with [] (drop from s) (simp length-drop (omega arith)) ∙ ap (λ (r : List ℕ). lineAt s from ∷ linesOf r) (behind-line s from (lineLength (drop from s)))
+
+no-lines : (s : List ℕ) (from : ℕ) → length s ≤ from → linesOf (drop from s) ≡ []
+unfolding linesWith
+no-lines s from h = rw (drop-of-length-le s h)
+
+-- ==== what calls of `some_lines` print
+
+-- no line's number begins again at 0
+abbrev Counted : List ℕ → ℕ → ℕ → Type 0
+Counted s from n = n + (length s - from) < 2 ^ 64
+
+next-counted : (s : List ℕ) (from n : ℕ) → from < length s → Counted s from n → (nextNumber n ≡ suc n) × Counted s (nextPlace s from) (suc n)
+next-counted s from n h c =
+    let k : from < nextPlace s from = further-on (length s) from (from + lineLength (drop from s)) h (omega arith) in
+    (mod-eq-of-lt (omega arith) ∙ add-one n, omega arith)
+
+-- the lines that are printed from a place on are those printed by one call, and those from where it stopped
+record Joined (s : List ℕ) (from n : ℕ) (f : Files) (t : List ℕ) (e m : ℕ) (g : Files) : Type 0 where
+  counted : Counted s e m
+  join : {u : List ℕ} {h : Files} → Turns m (linesOf (drop e s)) g u h → Turns n (linesOf (drop from s)) f (t ++ u) h
+
+joined : {s t : List ℕ} {room from n e m : ℕ} {f g : Files} → length s ≤ listingLimit → Counted s from n → Some s room from n f t e m g → Joined s from n f t e m g
+joined l c (ended a) = record { counted = c; join = λ x. x }
+joined l c (no-room a b) = record { counted = c; join = λ x. x }
+joined l c (chunks.too-long a b d) = absurd (omega arith)
+joined {s} l c (one-more {from = from} {n = n} {e = e} {m = m} {f = f} {g = g} {h = h} {t = t} {u = u} a b d p x) =
+    let k = next-counted s from n a c in
+    let j = joined l (subst (Counted s (nextPlace s from)) (sym (k .0)) (k .1)) x in
+    record {
+      counted = j .counted;
+      join = λ {u = v} {h = w} z.
+          rw (first-line s from a, append-assoc t u v)
+          (more p (subst (λ (i : ℕ). Turns i (linesOf (drop (nextPlace s from) s)) g (u ++ v) w) (k .0) (j .join z)));
+    }
+
+calls-turns : {s t : List ℕ} {from n : ℕ} {f g : Files} → length s ≤ listingLimit → Counted s from n → Calls s from n f t g → Turns n (linesOf (drop from s)) f t g
+calls-turns {s} {t} {from} l c (chunks.none a) = rw (no-lines s from a) none
+calls-turns l c (chunks.more a b x y) = let j = joined l c x in j .join (calls-turns l (j .counted) y)
+
+-- a listing over the limit
+none-left : {s t : List ℕ} {from n : ℕ} {f g : Files} → length s ≤ from → Calls s from n f t g → (t ≡ []) × (f ≡ g)
+none-left h (chunks.none a) = (refl, refl)
+none-left h (chunks.more a b x y) = absurd (omega arith)
+
+over : {s t : List ℕ} {from n : ℕ} {f g : Files} → listingLimit < length s → from < length s → Calls s from n f t g → (t ≡ tooLongText) × (f ≡ g)
+over l h (chunks.none a) = absurd (omega arith)
+over l h (chunks.more a b (ended c) y) = absurd (omega arith)
+over l h (chunks.more a b (no-room c d) y) = absurd (omega arith)
+over l h (chunks.more a b (chunks.too-long c d e) y) =
+    let r = none-left (omega arith) y in
+    (ap (λ (u : List ℕ). tooLongText ++ u) (r .0) ∙ append-nil tooLongText, r .1)
+over l h (chunks.more a b (one-more c d e p x) y) = absurd (omega arith)
+
+none-changed : registersText startFiles ≡ []
+unfolding registersText changesText changeText startFiles
+none-changed = refl
+
+-- the listing program: calls of `some_lines` from the start, until the listing ends, and the registers then
+pub calls-output : (s : List ℕ) {t : List ℕ} {g : Files} → Calls s 0 1 startFiles t g → Output s (t ++ registersText g)
+calls-output s {t} {g} x = go (ltb listingLimit (length s)) refl
+  where
+    go : (p : Bool) → ltb listingLimit (length s) ≡ p → Output s (t ++ registersText g)
+    go true e =
+        let l : listingLimit < length s = ltb-true listingLimit (length s) e in
+        let r = over l (omega arith) x in
+        subst (Output s) (sym (ap₂ (λ (u : List ℕ) (h : Files). u ++ registersText h) (r .0) (sym (r .1)) ∙ ap (λ (u : List ℕ). tooLongText ++ u) none-changed ∙ append-nil tooLongText)) (too-long l)
+    go false e =
+        let l : length s ≤ listingLimit = ltb-false listingLimit (length s) e in
+        printed l (calls-turns l (omega arith) x)
+
+-- ==== no two outcomes of one call
+
+pub record Same (t u : List ℕ) (e d m k : ℕ) (g h : Files) : Type 0 where
+  pub text : t ≡ u
+  pub place : e ≡ d
+  pub number : m ≡ k
+  pub files : g ≡ h
+
+alike : {t : List ℕ} {e m : ℕ} {g : Files} → Same t t e e m m g g
+alike = record { text = refl; place = refl; number = refl; files = refl }
+
+pub some-one : {s t u : List ℕ} {room from n e d m k : ℕ} {f g h : Files} → Some s room from n f t e m g → Some s room from n f u d k h → Same t u e d m k g h
+some-one (ended a) (ended b) = alike
+some-one (no-room a b) (no-room c d) = alike
+some-one (chunks.too-long a b c) (chunks.too-long d e f) = alike
+some-one {s} (one-more {room = room} {from = from} {n = n} {g = g} {t = t} a b c p x) (one-more {e = e} {m = m} {g = g′} {h = h} {t = t′} {u = u} a′ b′ c′ q y) =
+    let i = turn-one p q in
+    let z : Some s (room - length t) (nextPlace s from) (nextNumber n) g u e m h =
+        subst (λ (v : List ℕ). Some s (room - length v) (nextPlace s from) (nextNumber n) g u e m h) (sym (i .0))
+        (subst (λ (w : Files). Some s (room - length t′) (nextPlace s from) (nextNumber n) w u e m h) (sym (i .1)) y) in
+    let r = some-one x z in
+    record { text = ap₂ (λ (v w : List ℕ). v ++ w) (i .0) (r .text); place = r .place; number = r .number; files = r .files }
+some-one (ended a) (no-room b c) = absurd (omega arith)
+some-one (ended a) (chunks.too-long b c d) = absurd (omega arith)
+some-one (ended a) (one-more b c d p x) = absurd (omega arith)
+some-one (no-room a b) (ended c) = absurd (omega arith)
+some-one (no-room a b) (chunks.too-long c d e) = absurd (omega arith)
+some-one (no-room a b) (one-more c d e p x) = absurd (omega arith)
+some-one (chunks.too-long a b c) (ended d) = absurd (omega arith)
+some-one (chunks.too-long a b c) (no-room d e) = absurd (omega arith)
+some-one (chunks.too-long a b c) (one-more d e f p x) = absurd (omega arith)
+some-one (one-more a b c p x) (ended d) = absurd (omega arith)
+some-one (one-more a b c p x) (no-room d e) = absurd (omega arith)
+some-one (one-more a b c p x) (chunks.too-long d e f) = absurd (omega arith)
+
+pub record SameCall (e d m k len wid : ℕ) (g h : Files) (x y : List ℕ) : Type 0 where
+  pub place : e ≡ d
+  pub number : m ≡ k
+  pub used : len ≡ wid
+  pub files : g ≡ h
+  pub buffer : x ≡ y
+
+pub prints-one : {s out x y : List ℕ} {from n e d m k len wid : ℕ} {f g h : Files} → Prints s from n f out e m len g x → Prints s from n f out d k wid h y
+    → SameCall e d m k len wid g h x y
+prints-one {s} {out} a b =
+    let i = some-one (a .some) (b .some) in
+    record {
+      place = i .place;
+      number = i .number;
+      used = a .length-of ∙ ap length (i .text) ∙ sym (b .length-of);
+      files = i .files;
+      buffer = a .buffer ∙ ap (λ (t : List ℕ). front t out) (i .text) ∙ sym (b .buffer);
+    }
+
+-- ==== what a caller's loop needs
+
+goes-forward : {s t : List ℕ} {room from n e m : ℕ} {f g : Files} → Some s room from n f t e m g → from ≤ e
+goes-forward (ended a) = omega arith
+goes-forward (no-room a b) = omega arith
+goes-forward (chunks.too-long a b c) = omega arith
+goes-forward {s} (one-more {from = from} a b c p x) =
+    let k = further-on (length s) from (from + lineLength (drop from s)) a (omega arith) in
+    omega (arith, goes-forward x)
+
+-- a call with room for a line goes on
+pub call-goes-on : {s t : List ℕ} {room from n e m : ℕ} {f g : Files} → from < length s → lineRoom ≤ room → Some s room from n f t e m g → from < e
+call-goes-on h r (ended a) = absurd (omega arith)
+call-goes-on h r (no-room a b) = absurd (omega arith)
+call-goes-on h r (chunks.too-long a b c) = omega arith
+call-goes-on {s} h r (one-more {from = from} a b c p x) =
+    let k = further-on (length s) from (from + lineLength (drop from s)) a (omega arith) in
+    omega (arith, goes-forward x)
+
+-- so far: calls printed text, and what is called from here on goes behind it
+pub record Called (s : List ℕ) (f : Files) (from n : ℕ) (g : Files) : Type 0 where
+  pub text : List ℕ
+  pub rest : {u : List ℕ} {h : Files} → Calls s from n g u h → Calls s 0 1 f (text ++ u) h
+
+pub none-called : (s : List ℕ) (f : Files) → Called s f 0 1 f
+none-called s f = record { text = []; rest = λ x. x }
+
+pub called : {s out after : List ℕ} {from n e m len : ℕ} {f g h : Files} → Called s f from n g → from < length s → lineRoom ≤ length out
+    → Prints s from n g out e m len h after → Called s f e m h
+called {s} {out} c i r p =
+    record {
+      text = c .text ++ p .text;
+      rest = λ {u = u} x. rw (append-assoc (c .text) (p .text) u) (c .rest (chunks.more {room = length out} i r (p .some) x));
+    }
+
+-- what the program prints in all
+pub record Told (s : List ℕ) (f g : Files) : Type 0 where
+  pub text : List ℕ
+  pub calls : Calls s 0 1 f text g
+
+pub told : {s : List ℕ} {from n : ℕ} {f g : Files} → Called s f from n g → length s ≤ from → Told s f g
+told {s} {from} {n} {f} {g} c h = record { text = c .text ++ []; calls = c .rest (chunks.none h) }
