@@ -18,7 +18,13 @@ fn say_first(s: &[u8], n: usize) {
 }
 
 // Calls `some_lines` until the listing ends, and prints what each call has put into the buffer.
-fn say_lines(listing: &[u8], words: &mut [u32], doubles: &mut [u64], preds: &mut [u8], out: &mut [u8])
+fn say_lines(
+    listing: &[u8],
+    words: &mut [u32],
+    doubles: &mut [u64],
+    preds: &mut [u8],
+    out: &mut [u8],
+)
     requires { ⌜ lineRoom ≤ length (now out) ⌝ }
     ensures { λ _. ⌜ Told (now (listing .entry)) (files (now (words .entry)) (now (doubles .entry)) (now (preds .entry))) (files (now (words .exit)) (now (doubles .exit)) (now (preds .exit))) ⌝ }
 {

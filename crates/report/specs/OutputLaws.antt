@@ -1,6 +1,6 @@
 -- Every listing has one output, and calls of `some_lines` until the listing ends, followed by the registers, print it. Assumes nothing.
-use Prim.Native.Nat.{ℕ, zero, suc, _+_, _-_, _%_, _^_, _≤_, _<_}
-use native.Mathlib.Nat.{add-zero, mod-eq-of-lt}
+use Prim.Native.Nat.{ℕ, suc, _+_, _-_, _^_, _≤_, _<_}
+use native.Mathlib.Nat.{mod-eq-of-lt}
 use native.Mathlib.Numerals.{add-one}
 use native.Mathlib.Omega.{arith}
 use mathlib.Core.Path.{_≡_, refl, sym, ap, ap₂, _∙_, subst}
@@ -11,11 +11,11 @@ use lib.Seq.{drop-drop, append-snoc}
 use lib.Dec.{eqb, ltb}
 use borrow.Author.Tests.{ltb-true, ltb-false}
 use Rattle.rules.specs.Executing.{Files}
-use Rattle.rules.specs.Reading.{Answer, Answers}
+use Rattle.rules.specs.Reading.{Answer}
 use Rattle.rules.specs.Writing.{front}
 use Rattle.read.specs.Mirror.{readOf}
 use Rattle.read.specs.Laws.{answers, answers-unique}
-use Rattle.report.specs.Listing.{lineFeed, lastLine, linesWith, linesOf, lineText, filesAfter, Turn, Turns, none, more, startValue, startFiles, changeText, changesText, registersText, listingLimit, tooLongText, Output, too-long, printed}
+use Rattle.report.specs.Listing.{lineFeed, linesWith, linesOf, lineText, filesAfter, Turn, Turns, none, more, startFiles, changeText, changesText, registersText, listingLimit, tooLongText, Output, too-long, printed}
 use Rattle.report.specs.Chunks.{lineLength, lineAt, behind, nextPlace, nextNumber, lineRoom, Some, ended, no-room, one-more, Prints, Calls}
 use Rattle.report.specs.Chunks as chunks
 use Rattle.report.specs.ChunkLaws.{further-on}
@@ -28,8 +28,7 @@ turn-of n l f = record { answer = readOf l; answers = answers l; text = refl; fi
 -- what a line prints, and what it leaves in the files, is one thing
 pub turn-one : {n : ℕ} {l t u : List ℕ} {f g h : Files} → Turn n l f t g → Turn n l f u h → (t ≡ u) × (g ≡ h)
 turn-one {n} {l} {t} {u} {f} {g} {h} a b =
-    let e : a .answer ≡ b .answer = answers-unique l (a .answer) (b .answer) (a .answers) (b .answers) in
-    (
+    let e : a .answer ≡ b .answer = answers-unique l (a .answer) (b .answer) (a .answers) (b .answers) in (
       a .text ∙ ap (λ (x : Answer). lineText n x f) e ∙ sym (b .text),
       a .files ∙ ap (λ (x : Answer). filesAfter x f) e ∙ sym (b .files),
     )
@@ -77,7 +76,7 @@ line-with l (b ∷ s) h = go (eqb b lineFeed) (line-with (l ++ (b ∷ [])) s (si
   where
     go : (t : Bool) → linesWith (l ++ (b ∷ [])) s ≡ (l ++ (b ∷ []) ++ take (lineLength s) s) ∷ linesOf (drop (suc (lineLength s)) s)
         → cond t (l ∷ linesWith [] s) (linesWith (l ++ (b ∷ [])) s)
-            ≡ (l ++ take (cond t 0 (suc (lineLength s))) (b ∷ s)) ∷ linesOf (drop (suc (cond t 0 (suc (lineLength s)))) (b ∷ s))
+        ≡ (l ++ take (cond t 0 (suc (lineLength s))) (b ∷ s)) ∷ linesOf (drop (suc (cond t 0 (suc (lineLength s)))) (b ∷ s))
     go true e = ap (λ (x : List ℕ). x ∷ linesOf s) (sym (append-nil l))
     go false e = e ∙ ap (λ (x : List ℕ). x ∷ linesOf (drop (suc (lineLength s)) s)) (append-snoc l b (take (lineLength s) s))
 
@@ -182,8 +181,8 @@ some-one (chunks.too-long a b c) (chunks.too-long d e f) = alike
 some-one {s} (one-more {room = room} {from = from} {n = n} {g = g} {t = t} a b c p x) (one-more {e = e} {m = m} {g = g′} {h = h} {t = t′} {u = u} a′ b′ c′ q y) =
     let i = turn-one p q in
     let z : Some s (room - length t) (nextPlace s from) (nextNumber n) g u e m h =
-        subst (λ (v : List ℕ). Some s (room - length v) (nextPlace s from) (nextNumber n) g u e m h) (sym (i .0))
-        (subst (λ (w : Files). Some s (room - length t′) (nextPlace s from) (nextNumber n) w u e m h) (sym (i .1)) y) in
+    subst (λ (v : List ℕ). Some s (room - length v) (nextPlace s from) (nextNumber n) g u e m h) (sym (i .0))
+    (subst (λ (w : Files). Some s (room - length t′) (nextPlace s from) (nextNumber n) w u e m h) (sym (i .1)) y) in
     let r = some-one x z in
     record { text = ap₂ (λ (v w : List ℕ). v ++ w) (i .0) (r .text); place = r .place; number = r .number; files = r .files }
 some-one (ended a) (no-room b c) = absurd (omega arith)

@@ -1,55 +1,56 @@
+use borrow.Author.Needs.{needs}
+-- The invariant: what was printed, and that what is printed from here on goes behind it.
+use Prim.Native.Nat.{_-_, _≤_}
+use native.Mathlib.Omega.{arith}
+use mathlib.Core.Path.{_≡_}
+use lib.ListN.{length}
+use Rattle.rules.specs.Executing.{files}
+use Rattle.report.specs.Chunks.{lineRoom}
+use Rattle.report.specs.OutputLaws.{Called, none-called, called, call-goes-on, told}
 use Rattle.listing.proofs.say_lines.Statement.{statement}
 use Rattle.listing.proofs.say_lines.Tie as tie
-use Rattle.listing.proofs.say_lines.Reads as reads
-use Rattle.listing.proofs.say_lines.Lts as lts
-use Rattle.listing.proofs.say_first.Reads as say-first-reads
-use Rattle.report.proofs.some_lines.Reads as some-lines-reads
 
 abbrev Inv-loop : tie.InvT-loop
-Inv-loop listing words₀ doubles₀ preds₀ out₀ at₀ number₀ words doubles preds out at number = ?
+Inv-loop listing words₀ doubles₀ preds₀ out₀ at₀ number₀ words doubles preds out at number =
+    (lineRoom ≤ length out)
+    × (length words ≡ length words₀)
+    × (length doubles ≡ length doubles₀)
+    × (length preds ≡ length preds₀)
+    × (length out ≡ length out₀)
+    × Called listing (files words₀ doubles₀ preds₀) at number (files words doubles preds)
 
 abbrev μ-loop : tie.MeasureT-loop
-μ-loop listing words₀ doubles₀ preds₀ out₀ at₀ number₀ words doubles preds out at number = ?
+μ-loop listing words₀ doubles₀ preds₀ out₀ at₀ number₀ words doubles preds out at number = length listing - at
 
--- src/main.rt:27:5
 loop-holds : tie.Need-loop-holds Inv-loop μ-loop
-loop-holds c = ?
+loop-holds c = (search needs, search needs, search needs, search needs, search needs, none-called _ _)
 
--- src/main.rt:28:13
 some-lines-requires : tie.Need-some-lines-requires Inv-loop μ-loop
-some-lines-requires c κs = ?
+some-lines-requires c κs = search needs
 
--- src/main.rt:29:9
 say-first-requires : tie.Need-say-first-requires Inv-loop μ-loop
-say-first-requires c κs = ?
+say-first-requires c κs = search needs
 
--- src/main.rt:27:5
 loop-less : tie.Need-loop-less Inv-loop μ-loop
-loop-less c = ?
+loop-less c = omega (arith, call-goes-on (c .before .before .before .before .before .before .before .before .before .before .before .before .before .before .before .loop-test .taken) (c .before .before .before .before .before .before .before .before .before .before .before .before .before .before .before .before .loop .inv .0) (c .before .before .before .before .before .before .before .before .before .before .some-lines .ensures .some))
 
--- src/main.rt:27:5
 loop-again : tie.Need-loop-again Inv-loop μ-loop
-loop-again c = ?
+loop-again c = (search needs, search needs, search needs, search needs, search needs, called (c .before .before .before .before .before .before .before .before .before .before .before .before .before .before .before .before .loop .inv .5) (c .before .before .before .before .before .before .before .before .before .before .before .before .before .before .before .loop-test .taken) (c .before .before .before .before .before .before .before .before .before .before .before .before .before .before .before .before .loop .inv .0) (c .before .before .before .before .before .before .before .before .before .before .some-lines .ensures))
 
--- src/main.rt:21:1
 same-length : tie.Need-same-length Inv-loop μ-loop
-same-length c = ?
+same-length c = search needs
 
--- src/main.rt:21:1
 same-length-2 : tie.Need-same-length-2 Inv-loop μ-loop
-same-length-2 c = ?
+same-length-2 c = search needs
 
--- src/main.rt:21:1
 same-length-3 : tie.Need-same-length-3 Inv-loop μ-loop
-same-length-3 c = ?
+same-length-3 c = search needs
 
--- src/main.rt:21:1
 same-length-4 : tie.Need-same-length-4 Inv-loop μ-loop
-same-length-4 c = ?
+same-length-4 c = search needs
 
--- src/main.rt:21:1
 returns : tie.Need-returns Inv-loop μ-loop
-returns c = ?
+returns c = told (c .before .loop .inv .5) (c .loop-test .left)
 
 pub say-lines-spec : {M : Type 1} → statement M
 say-lines-spec =
