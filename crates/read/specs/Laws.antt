@@ -411,5 +411,13 @@ read-is l n e z = rw (← e, z)
 pub ends-refused : (l : List ℕ) (n : ℕ) → n ≡ numberIs l → (n ≡ 0 → ⊥) → Answers l (refused n)
 ends-refused l n e h = subst (Answers l) (refused-is l n e h) (answers l)
 
+-- without the shape the later stages do not count
+pub ends-unshaped : (l : List ℕ) → shapeOf l .good ≡ false → Answers l (refused (firstRefusal (ltb lineLimit (length l)) true true true true true true))
+ends-unshaped l e = go (ltb lineLimit (length l)) refl
+  where
+    go : (b : Bool) → ltb lineLimit (length l) ≡ b → Answers l (refused (firstRefusal b true true true true true true))
+    go true t = ends-refused l 1 (rw t) (λ z. absurd (omega arith))
+    go false t = ends-refused l 2 (rw (t, e)) (λ z. absurd (omega arith))
+
 pub ends-read : (l : List ℕ) (n : ℕ) → n ≡ numberIs l → n ≡ 0 → Answers l (read (candidateOf (shapeOf l .parts) .spelled))
 ends-read l n e z = subst (Answers l) (read-is l n e z) (answers l)

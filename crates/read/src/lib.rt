@@ -264,10 +264,15 @@ fn stopped(too_long: bool, good: bool, place: usize, c: Candidate) -> Stop
 pub fn read(line: &[u8]) -> Reading
     ensures { λ a. ⌜ Answers (now (line .entry)) (answerOf a) ⌝ }
 {
+    let too_long = LINE_LIMIT < line.len();
     let scanned = shape::shape(line);
+    if !scanned.good {
+        // What the later stages would say no longer counts.
+        return Reading::Refused(first_refusal(too_long, true, true, true, true, true, true));
+    }
     let parts = scanned.parts;
     let c = weighed(parts);
-    let s = stopped(LINE_LIMIT < line.len(), scanned.good, scanned.place, c);
+    let s = stopped(too_long, true, scanned.place, c);
     if s.number != 0 {
         return Reading::Refused(s.number);
     }
