@@ -226,16 +226,18 @@ fn name_by(names: Names, n: usize, b: u8, code: u64) -> Names
 // How many operands are kept.
 const OPERANDS_KEPT: usize = 5;
 
-fn no_operands() -> Operands
+// Any k: a store at a place that the compiler does not know keeps the array one block, which is moved as one and not byte by byte.
+fn no_operands(k: usize) -> Operands
     ensures { λ r. ⌜ r ≡ noOperands ⌝ }
 {
     let spare = Slot {
         tree: Tree::Pair(Spot::Nothing, Spot::Nothing),
     };
-    Operands {
-        n: 0,
-        at: [spare; OPERANDS_KEPT],
+    let mut at = [spare; OPERANDS_KEPT];
+    if k < OPERANDS_KEPT {
+        at[k] = spare;
     }
+    Operands { n: 0, at }
 }
 
 fn pushed_tree(o: Operands, tree: Tree) -> Operands
@@ -289,10 +291,10 @@ struct Listed {
     operands: Operands,
 }
 
-fn start_list() -> Listed
+fn start_list(k: usize) -> Listed
     ensures { λ r. ⌜ r ≡ startList ⌝ }
 {
-    let operands = no_operands();
+    let operands = no_operands(k);
     Listed {
         more: true,
         good: false,
@@ -307,7 +309,7 @@ fn read_operands(s: &[u8]) -> Listed
     ensures { λ r. ⌜ r ≡ operandsOf (now (s .entry)) ⌝ }
 {
     let mut w = s;
-    let mut list = start_list();
+    let mut list = start_list(s.len());
     for _turn in 0..MOST_TURNS {
         if !list.more {
             return list;
@@ -426,11 +428,11 @@ pub struct Scanned {
     pub parts: Parts,
 }
 
-fn no_parts() -> Parts
+fn no_parts(k: usize) -> Parts
     ensures { λ r. ⌜ r ≡ noParts ⌝ }
 {
     let head = no_head();
-    let operands = no_operands();
+    let operands = no_operands(k);
     Parts {
         guard: Guarding::Unguarded,
         head,
@@ -441,7 +443,7 @@ fn no_parts() -> Parts
 fn refused(place: usize) -> Scanned
     ensures { λ r. ⌜ r ≡ refused place ⌝ }
 {
-    let parts = no_parts();
+    let parts = no_parts(place);
     Scanned {
         good: false,
         place,
