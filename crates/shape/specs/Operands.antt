@@ -1,5 +1,6 @@
 -- The operands at the front of a list, as the scanner finds them.
 use Prim.Native.Nat.{ℕ}
+use mathlib.Core.Path.{_≡_, refl}
 use mathlib.Core.List.{List}
 use mathlib.Core.Bool.{true, false, cond}
 use lib.Dec.{leb, eqb}
@@ -16,6 +17,7 @@ use Rattle.shape.specs.declared.OperandRead.the-variants as operand
 use Rattle.shape.specs.declared.Divider.{Divider}
 use Rattle.shape.specs.declared.Divider.the-variants.{Comma, Semicolon, Bad}
 use Rattle.shape.specs.declared.Listed.{Listed}
+use Rattle.shape.specs.declared.Turn.{Turn}
 
 abbrev pub noOperands : Operands
 noOperands = record { n = 0; at = replicate operandsKept spare }
@@ -49,3 +51,31 @@ operandTurns = turns (λ (st : Listed). st .more) (λ (st : Listed). st .step) o
 
 unfoldable pub operandsOf : List ℕ → Listed
 operandsOf s = operandTurns mostTurns s startList
+
+-- ==== a turn apart from the operands that it leaves
+
+abbrev pub listedBy : Turn → Operands → Listed
+listedBy t o = record { more = t .more; good = t .good; place = t .place; step = t .step; operands = o }
+
+unfoldable pub turnDivided : ℕ → ℕ → Divider → Turn
+turnDivided p n (Comma m) = record { more = true; good = false; place = sum (sum p n) m; step = sum n m }
+turnDivided p n (Semicolon m) = record { more = false; good = true; place = sum (sum p n) m; step = sum n m }
+turnDivided p n (Bad q) = record { more = false; good = false; place = sum (sum p n) q; step = 0 }
+
+unfoldable pub turnBy : ℕ → OperandRead → List ℕ → Turn
+turnBy p (operand.Got t n) w = turnDivided p n (dividerOf (drop n w))
+turnBy p (operand.Bad q) w = record { more = false; good = false; place = sum p q; step = 0 }
+
+divided-apart : (p : ℕ) (o : Operands) (n : ℕ) (d : Divider) → dividedBy p o n d ≡ listedBy (turnDivided p n d) o
+unfolding dividedBy turnDivided
+divided-apart p o n (Comma m) = refl
+divided-apart p o n (Semicolon m) = refl
+divided-apart p o n (Bad q) = refl
+
+pub got-apart : (st : Listed) (t : Tree) (n : ℕ) (w : List ℕ) → operandBy st (operand.Got t n) w ≡ listedBy (turnBy (st .place) (operand.Got t n) w) (pushedTree (st .operands) t)
+unfolding operandBy turnBy
+got-apart st t n w = divided-apart (st .place) (pushedTree (st .operands) t) n (dividerOf (drop n w))
+
+pub bad-apart : (st : Listed) (q : ℕ) (w : List ℕ) → operandBy st (operand.Bad q) w ≡ listedBy (turnBy (st .place) (operand.Bad q) w) (st .operands)
+unfolding operandBy turnBy
+bad-apart st q w = refl

@@ -18,7 +18,7 @@ use tree::Tree;
 ghost use mathlib.Core.Path.{_≡_};
 ghost use Rattle.shape.specs.Operand.{operandOf, inverted, firstOf, afterBy, secondOf, secondBy, partOf};
 ghost use Rattle.shape.specs.Head.{noHead, pushedName, startNames, nameBy, nameTurn, headOf};
-ghost use Rattle.shape.specs.Operands.{noOperands, pushedTree, dividerBy, dividerOf, startList, dividedBy, operandBy, operandTurn, operandsOf};
+ghost use Rattle.shape.specs.Operands.{noOperands, dividerBy, dividerOf, operandsOf, listedBy, turnDivided, turnBy};
 ghost use Rattle.shape.specs.Guard.{guardBy, guardOf};
 ghost use Rattle.shape.specs.Line.{noParts, refused, fromEnd, fromOperands, fromGap, fromHead, guardedBy, shapeOf};
 
@@ -240,19 +240,6 @@ fn no_operands(k: usize) -> Operands
     Operands { n: 0, at }
 }
 
-fn pushed_tree(o: Operands, tree: Tree) -> Operands
-    ensures { λ r. ⌜ r ≡ pushedTree o tree ⌝ }
-{
-    let n = o.n;
-    let mut at = o.at;
-    let count = further(n, 1);
-    if OPERANDS_KEPT <= n {
-        return Operands { n: count, at };
-    }
-    at[n] = Slot { tree };
-    Operands { n: count, at }
-}
-
 // What divides an operand from the next, or ends the list, with the blanks around it and its length; or the place of a wrong byte.
 enum Divider {
     Comma(usize),
@@ -282,6 +269,14 @@ fn divider_by(n: usize, b: u8, m: usize) -> Divider
     Divider::Bad(n)
 }
 
+// How far a list is read, all but what it holds: `place` bytes, `step` of them in the last turn; `more` while a part must follow.
+struct Turn {
+    more: bool,
+    good: bool,
+    place: usize,
+    step: usize,
+}
+
 // How far the operands are read, as for a head.
 struct Listed {
     more: bool,
@@ -291,15 +286,14 @@ struct Listed {
     operands: Operands,
 }
 
-fn start_list(k: usize) -> Listed
-    ensures { λ r. ⌜ r ≡ startList ⌝ }
+fn with_operands(t: Turn, operands: Operands) -> Listed
+    ensures { λ r. ⌜ r ≡ listedBy t operands ⌝ }
 {
-    let operands = no_operands(k);
     Listed {
-        more: true,
-        good: false,
-        place: 0,
-        step: 0,
+        more: t.more,
+        good: t.good,
+        place: t.place,
+        step: t.step,
         operands,
     }
 }
@@ -308,75 +302,79 @@ fn start_list(k: usize) -> Listed
 fn read_operands(s: &[u8]) -> Listed
     ensures { λ r. ⌜ r ≡ operandsOf (now (s .entry)) ⌝ }
 {
+    let spare = Slot {
+        tree: Tree::Pair(Spot::Nothing, Spot::Nothing),
+    };
+    // The array is a local of the loop: in a state by value all of it would move with each operand.
+    let mut at = [spare; OPERANDS_KEPT];
+    let mut n = 0;
     let mut w = s;
-    let mut list = start_list(s.len());
+    let mut t = Turn {
+        more: true,
+        good: false,
+        place: 0,
+        step: 0,
+    };
     for _turn in 0..MOST_TURNS {
-        if !list.more {
-            return list;
+        if !t.more {
+            return with_operands(t, Operands { n, at });
         }
-        list = operand_turn(w, list);
-        let step = list.step;
+        let r = read_operand(w);
+        let place = t.place;
+        t = turn_by(place, r, w);
+        let OperandRead::Got(tree, _) = r else {
+            return with_operands(t, Operands { n, at });
+        };
+        let step = t.step;
         let next = rest(w, step);
         w = next;
+        let count = further(n, 1);
+        if n < OPERANDS_KEPT {
+            at[n] = Slot { tree };
+        }
+        n = count;
     }
-    list
+    with_operands(t, Operands { n, at })
 }
 
 // One operand and what divides it from the next.
-fn operand_turn(w: &[u8], list: Listed) -> Listed
-    ensures { λ r. ⌜ r ≡ operandTurn (now (w .entry)) list ⌝ }
+fn turn_by(place: usize, r: OperandRead, w: &[u8]) -> Turn
+    ensures { λ o. ⌜ o ≡ turnBy place r (now (w .entry)) ⌝ }
 {
-    operand_by(list, read_operand(w), w)
-}
-
-fn operand_by(list: Listed, r: OperandRead, w: &[u8]) -> Listed
-    ensures { λ o. ⌜ o ≡ operandBy list r (now (w .entry)) ⌝ }
-{
-    let place = list.place;
-    let operands = list.operands;
     match r {
-        OperandRead::Got(tree, n) => divided_by(
-            place,
-            pushed_tree(operands, tree),
-            n,
-            read_divider(rest(w, n)),
-        ),
-        OperandRead::Bad(p) => Listed {
+        OperandRead::Got(_, n) => divided_by(place, n, read_divider(rest(w, n))),
+        OperandRead::Bad(p) => Turn {
             more: false,
             good: false,
             place: further(place, p),
             step: 0,
-            operands,
         },
     }
 }
 
 // After an operand of n bytes.
-fn divided_by(place: usize, operands: Operands, n: usize, d: Divider) -> Listed
-    ensures { λ o. ⌜ o ≡ dividedBy place operands n d ⌝ }
+fn divided_by(place: usize, n: usize, d: Divider) -> Turn
+    ensures { λ o. ⌜ o ≡ turnDivided place n d ⌝ }
 {
     let end = further(place, n);
     match d {
-        Divider::Comma(m) => Listed {
+        Divider::Comma(m) => Turn {
             more: true,
             good: false,
             place: further(end, m),
             step: further(n, m),
-            operands,
         },
-        Divider::Semicolon(m) => Listed {
+        Divider::Semicolon(m) => Turn {
             more: false,
             good: true,
             place: further(end, m),
             step: further(n, m),
-            operands,
         },
-        Divider::Bad(p) => Listed {
+        Divider::Bad(p) => Turn {
             more: false,
             good: false,
             place: further(end, p),
             step: 0,
-            operands,
         },
     }
 }

@@ -1,4 +1,4 @@
-use Rattle.shape.specs.Operands.{dividedBy}
+use Rattle.shape.specs.Operands.{turnDivided}
 use borrow.Author.Needs.{needs}
 use Rattle.shape.proofs.divided_by.Statement.{statement}
 use Rattle.shape.proofs.divided_by.Tie as tie
@@ -31,7 +31,7 @@ further-requires-6 : tie.Need-further-requires-6
 further-requires-6 c κs = search needs
 
 returns : tie.Need-returns
-unfolding dividedBy
+unfolding turnDivided
 returns c =
     simp (
       c .further3 .ensures,
@@ -41,7 +41,7 @@ returns c =
     )
 
 returns-2 : tie.Need-returns-2
-unfolding dividedBy
+unfolding turnDivided
 returns-2 c =
     simp (
       c .further5 .ensures,
@@ -51,7 +51,7 @@ returns-2 c =
     )
 
 returns-3 : tie.Need-returns-3
-unfolding dividedBy
+unfolding turnDivided
 returns-3 c =
     simp (
       c .further6 .ensures,

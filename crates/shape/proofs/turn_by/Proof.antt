@@ -1,13 +1,10 @@
-use Rattle.shape.specs.Operands.{operandBy}
+use Rattle.shape.specs.Operands.{turnBy}
 use borrow.Author.Needs.{needs}
-use Rattle.shape.proofs.operand_by.Statement.{statement}
-use Rattle.shape.proofs.operand_by.Tie as tie
+use Rattle.shape.proofs.turn_by.Statement.{statement}
+use Rattle.shape.proofs.turn_by.Tie as tie
 
 enum-known-r : tie.Need-enum-known-r
 enum-known-r c = search needs
-
-pushed-tree-requires : tie.Need-pushed-tree-requires
-pushed-tree-requires c κs = search needs
 
 rest-requires : tie.Need-rest-requires
 rest-requires c κs = search needs
@@ -25,30 +22,28 @@ further-requires : tie.Need-further-requires
 further-requires c κs = search needs
 
 returns : tie.Need-returns
-unfolding operandBy
+unfolding turnBy
 returns c =
     simp (
       c .divided-by .ensures,
       c .before .read-divider .ensures,
       c .before .before .rest .ensures,
-      c .before .before .before .pushed-tree .ensures,
-      c .before .before .before .before .before .r .given .1,
+      c .before .before .before .before .r .given .1,
     )
 
 returns-2 : tie.Need-returns-2
-unfolding operandBy
+unfolding turnBy
 returns-2 c =
     simp (
       c .further .ensures,
       c .before .before .r2 .given .1,
     )
 
-pub operand-by-spec : {M : Type 1} → statement M
-operand-by-spec =
+pub turn-by-spec : {M : Type 1} → statement M
+turn-by-spec =
     tie.close
     (tie.spec
     enum-known-r
-    pushed-tree-requires
     rest-requires
     read-divider-requires
     divided-by-requires
