@@ -1,7 +1,8 @@
 -- The head at the front of a list, as the scanner finds it.
 use Prim.Native.Nat.{ℕ}
+use mathlib.Core.Path.{_≡_, refl}
 use mathlib.Core.List.{List}
-use mathlib.Core.Bool.{true, false, cond}
+use mathlib.Core.Bool.{Bool, true, false, cond}
 use lib.Dec.{leb, eqb}
 use lib.ListN.{getD, take, set, replicate}
 use Rattle.base.specs.Bytes.{isNameByte}
@@ -11,6 +12,7 @@ use Rattle.tree.specs.declared.Head.{Head}
 use Rattle.scan.specs.Runs.{run, sum}
 use Rattle.shape.specs.Turns.{turns, mostTurns}
 use Rattle.shape.specs.declared.Names.{Names}
+use Rattle.shape.specs.declared.Turn.{Turn}
 
 abbrev pub noHead : Head
 noHead = record { n = 0; at = replicate namesKept 0 }
@@ -37,3 +39,32 @@ nameTurns = turns (λ (st : Names). st .more) (λ (st : Names). st .step) nameTu
 
 unfoldable pub headOf : List ℕ → Names
 headOf s = nameTurns mostTurns s startNames
+
+-- ==== a turn apart from the names that it leaves
+
+abbrev pub namesBy : Turn → Head → Names
+namesBy t h = record { more = t .more; good = t .good; place = t .place; step = t .step; head = h }
+
+unfoldable pub turnNamed : ℕ → ℕ → ℕ → Turn
+turnNamed p n b =
+    cond (eqb n 0) (record { more = false; good = false; place = p; step = 0 })
+    (cond (eqb b 46) (record { more = true; good = false; place = sum (sum p n) 1; step = sum n 1 })
+    (record { more = false; good = true; place = sum p n; step = n }))
+
+-- no name, and a name
+pub none-apart : (st : Names) (n b code : ℕ) → eqb n 0 ≡ true → nameBy st n b code ≡ namesBy (turnNamed (st .place) n b) (st .head)
+unfolding nameBy turnNamed
+none-apart st n b code e = rw e
+
+pub name-apart : (st : Names) (n b code : ℕ) → eqb n 0 ≡ false → nameBy st n b code ≡ namesBy (turnNamed (st .place) n b) (pushedName (st .head) code)
+unfolding nameBy turnNamed
+name-apart st n b code e = rw e (go (eqb b 46))
+  where
+    longer : Head
+    longer = pushedName (st .head) code
+
+    go : (d : Bool)
+        → cond d (record { more = true; good = false; place = sum (sum (st .place) n) 1; step = sum n 1; head = longer }) (record { more = false; good = true; place = sum (st .place) n; step = n; head = longer })
+        ≡ namesBy (cond d (record { more = true; good = false; place = sum (sum (st .place) n) 1; step = sum n 1 }) (record { more = false; good = true; place = sum (st .place) n; step = n })) longer
+    go true = refl
+    go false = refl

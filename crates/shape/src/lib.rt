@@ -17,7 +17,7 @@ use tree::Spot;
 use tree::Tree;
 ghost use mathlib.Core.Path.{_≡_};
 ghost use Rattle.shape.specs.Operand.{operandOf, inverted, firstOf, afterBy, secondOf, secondBy, partOf};
-ghost use Rattle.shape.specs.Head.{noHead, pushedName, startNames, nameBy, nameTurn, headOf};
+ghost use Rattle.shape.specs.Head.{noHead, headOf, namesBy, turnNamed};
 ghost use Rattle.shape.specs.Operands.{noOperands, dividerBy, dividerOf, operandsOf, listedBy, turnDivided, turnBy};
 ghost use Rattle.shape.specs.Guard.{guardBy, guardOf};
 ghost use Rattle.shape.specs.Line.{noParts, refused, fromEnd, fromOperands, fromGap, fromHead, guardedBy, shapeOf};
@@ -127,20 +127,15 @@ fn no_head() -> Head
     }
 }
 
-fn pushed_name(h: Head, code: u64) -> Head
-    ensures { λ r. ⌜ r ≡ pushedName h code ⌝ }
-{
-    let n = h.n;
-    let mut at = h.at;
-    let count = further(n, 1);
-    if NAMES_KEPT <= n {
-        return Head { n: count, at };
-    }
-    at[n] = code;
-    Head { n: count, at }
+// How far a head or a list of operands is read, all but what it holds: `place` bytes, `step` of them in the last turn; `more` while a part must follow, `good` once it is whole.
+struct Turn {
+    more: bool,
+    good: bool,
+    place: usize,
+    step: usize,
 }
 
-// How far a head is read: `place` bytes, `step` of them in the last turn; `more` while a name must follow, `good` once it is whole.
+// How far a head is read, and its names.
 struct Names {
     more: bool,
     good: bool,
@@ -149,15 +144,14 @@ struct Names {
     head: Head,
 }
 
-fn start_names() -> Names
-    ensures { λ r. ⌜ r ≡ startNames ⌝ }
+fn with_names(t: Turn, head: Head) -> Names
+    ensures { λ r. ⌜ r ≡ namesBy t head ⌝ }
 {
-    let head = no_head();
     Names {
-        more: true,
-        good: false,
-        place: 0,
-        step: 0,
+        more: t.more,
+        good: t.good,
+        place: t.place,
+        step: t.step,
         head,
     }
 }
@@ -166,60 +160,65 @@ fn start_names() -> Names
 fn read_head(s: &[u8]) -> Names
     ensures { λ r. ⌜ r ≡ headOf (now (s .entry)) ⌝ }
 {
+    // The array is a local of the loop: in a state by value all of it would move with each name.
+    let mut at = [0; NAMES_KEPT];
+    let mut n = 0;
     let mut w = s;
-    let mut names = start_names();
+    let mut t = Turn {
+        more: true,
+        good: false,
+        place: 0,
+        step: 0,
+    };
     for _turn in 0..MOST_TURNS {
-        if !names.more {
-            return names;
+        if !t.more {
+            return with_names(t, Head { n, at });
         }
-        names = name_turn(w, names);
-        let step = names.step;
+        let m = run_len(Class::Name, w);
+        let place = t.place;
+        t = name_by(place, m, byte(w, m));
+        if m == 0 {
+            return with_names(t, Head { n, at });
+        }
+        let code = name_code(w, m);
+        let step = t.step;
         let next = rest(w, step);
         w = next;
+        let count = further(n, 1);
+        if n < NAMES_KEPT {
+            at[n] = code;
+        }
+        n = count;
     }
-    names
+    with_names(t, Head { n, at })
 }
 
-// One name.
-fn name_turn(w: &[u8], names: Names) -> Names
-    ensures { λ r. ⌜ r ≡ nameTurn (now (w .entry)) names ⌝ }
+// One name, by its length and the byte after it.
+fn name_by(place: usize, n: usize, b: u8) -> Turn
+    ensures { λ r. ⌜ r ≡ turnNamed place n b ⌝ }
 {
-    let n = run_len(Class::Name, w);
-    name_by(names, n, byte(w, n), name_code(w, n))
-}
-
-// By the name's length, the byte after it, and its number.
-fn name_by(names: Names, n: usize, b: u8, code: u64) -> Names
-    ensures { λ r. ⌜ r ≡ nameBy names n b code ⌝ }
-{
-    let place = names.place;
-    let head = names.head;
     if n == 0 {
-        return Names {
+        return Turn {
             more: false,
             good: false,
             place,
             step: 0,
-            head,
         };
     }
-    let longer = pushed_name(head, code);
     let end = further(place, n);
     if b == b'.' {
-        return Names {
+        return Turn {
             more: true,
             good: false,
             place: further(end, 1),
             step: further(n, 1),
-            head: longer,
         };
     }
-    Names {
+    Turn {
         more: false,
         good: true,
         place: end,
         step: n,
-        head: longer,
     }
 }
 
@@ -267,14 +266,6 @@ fn divider_by(n: usize, b: u8, m: usize) -> Divider
         return Divider::Semicolon(end);
     }
     Divider::Bad(n)
-}
-
-// How far a list is read, all but what it holds: `place` bytes, `step` of them in the last turn; `more` while a part must follow.
-struct Turn {
-    more: bool,
-    good: bool,
-    place: usize,
-    step: usize,
 }
 
 // How far the operands are read, as for a head.
