@@ -4,10 +4,10 @@ use native.Mathlib.Nat.{mod-eq-of-lt}
 use native.Mathlib.Omega.{arith}
 use mathlib.Core.Path.{_≡_, refl, sym, ap, _∙_}
 use mathlib.Core.Bool.{Bool, true, false, cond, _&&_}
-use lib.Dec.{ltb, eqb}
+use lib.Dec.{ltb, leb, eqb}
 use lib.ListN.{getD}
 use mathlib.Core.List.{List}
-use borrow.Author.Tests.{le-leb, lt-leb, ltb-true, ltb-false}
+use borrow.Author.Tests.{ltb-true, ltb-false}
 use Rattle.record.specs.declared.Mask.{Mask}
 use Rattle.record.specs.declared.LaneWidth.{LaneWidth}
 use Rattle.record.specs.declared.LaneWidth.the-variants.{Half, Byte}
@@ -47,17 +47,13 @@ past-at w x (suc (suc (suc (suc i)))) h a b d e = part-past w x i h
 
 -- ---- exact numbers
 
-pub exact-neg : (n x : ℕ) → n ≤ x + bias → n ≤ 2 * x → exactly ((x + bias) - n) ≡ exactOf true n x
+pub exact-neg : (s : Bool) (n x : ℕ) → n ≤ x + bias → s && leb n (2 * x) ≡ true → exactly ((x + bias) - n) ≡ exactOf s n x
 unfolding exactOf
-exact-neg n x p h = rw (le-leb n (2 * x) h) (un-down bias x n p)
+exact-neg s n x p h = rw h (un-down bias x n p)
 
-pub exact-pos : (n x : ℕ) → 2 * x < n → exactly (x + bias) ≡ exactOf true n x
+pub exact-pos : (s : Bool) (n x : ℕ) → s && leb n (2 * x) ≡ false → exactly (x + bias) ≡ exactOf s n x
 unfolding exactOf
-exact-pos n x h = rw (lt-leb n (2 * x) h) (un-up bias x)
-
-pub exact-plain : (n x : ℕ) → exactly (x + bias) ≡ exactOf false n x
-unfolding exactOf
-exact-plain n x = un-up bias x
+exact-pos s n x h = rw h (un-up bias x)
 
 -- the low bits are those of the number moved up, where what it is moved by has none
 module _ (z : ℕ) where

@@ -112,11 +112,9 @@ fn number(signed: bool, n: u64, x: u32) -> u64
     ensures { λ r. ⌜ (exactly r ≡ exactOf signed n x) × Near r ⌝ }
 {
     let v = x as u64;
-    if signed {
-        if n <= 2 * v {
-            return v + BIAS - n;
-        }
-        return v + BIAS;
+    // One test, which compiles to a choice of values without a jump.
+    if signed & (n <= 2 * v) {
+        return v + BIAS - n;
     }
     v + BIAS
 }
