@@ -7,7 +7,7 @@ use mathlib.Core.Bool.{Bool, true, false, cond, _&&_}
 use lib.Dec.{ltb, leb, eqb}
 use lib.ListN.{getD}
 use mathlib.Core.List.{List}
-use borrow.Author.Tests.{ltb-true, ltb-false}
+use borrow.Author.Tests.{ne-eqb, ltb-true, ltb-false}
 use Rattle.record.specs.declared.Mask.{Mask}
 use Rattle.record.specs.declared.LaneWidth.{LaneWidth}
 use Rattle.record.specs.declared.LaneWidth.the-variants.{Half, Byte}
@@ -38,12 +38,16 @@ part-past Byte x i h =
     let e : x / 2 ^ 8 / 2 ^ 8 / 2 ^ 8 / 2 ^ 8 ≡ 0 = omega arith in
     part-zero Byte i ∙ ap (λ (y : ℕ). partAt (size Byte) y i) (sym e)
 
-pub past-at : (w : LaneWidth) (x i : ℕ) → x < 2 ^ 32 → (i ≡ 0 → ⊥) → (i ≡ 1 → ⊥) → (i ≡ 2 → ⊥) → (i ≡ 3 → ⊥) → 0 ≡ partAt (size w) x i
-past-at w x zero h a b d e = absurd (a refl)
-past-at w x (suc zero) h a b d e = absurd (b refl)
-past-at w x (suc (suc zero)) h a b d e = absurd (d refl)
-past-at w x (suc (suc (suc zero))) h a b d e = absurd (e refl)
-past-at w x (suc (suc (suc (suc i)))) h a b d e = part-past w x i h
+pub chosen-part : (w : LaneWidth) (x i n : ℕ) → x < 2 ^ 32 → n ≡ size w
+    → cond (eqb i 0) x (cond (eqb i 1) (x / n) (cond (eqb i 2) (x / n / n) (cond (eqb i 3) (x / n / n / n) 0))) % n ≡ partAt (size w) x i
+chosen-part w x zero n h e = rw e
+chosen-part w x (suc zero) n h e = rw e
+chosen-part w x (suc (suc zero)) n h e = rw e
+chosen-part w x (suc (suc (suc zero))) n h e = rw e
+chosen-part w x (suc (suc (suc (suc i)))) n h e = rw (e, no 0 (omega arith), no 1 (omega arith), no 2 (omega arith), no 3 (omega arith)) (sym (part-zero w 0) ∙ part-past w x i h)
+  where
+    no : (k : ℕ) → k < 4 → eqb (suc (suc (suc (suc i)))) k ≡ false
+    no k l = ne-eqb (suc (suc (suc (suc i)))) k (λ (z : suc (suc (suc (suc i))) ≡ k). absurd (omega arith))
 
 -- ---- exact numbers
 

@@ -55,19 +55,16 @@ fn part(w: LaneWidth, x: u32, i: u8) -> u32
     ensures { λ r. ⌜ (r ≡ partAt (size w) x i) × (r < size w) ⌝ }
 {
     let n = lane_size(w);
-    if i == 0 {
-        return x % n;
-    }
-    if i == 1 {
-        return x / n % n;
-    }
-    if i == 2 {
-        return x / n / n % n;
-    }
-    if i == 3 {
-        return x / n / n / n % n;
-    }
-    0
+    let x1 = x / n;
+    let x2 = x1 / n;
+    let x3 = x2 / n;
+    // A choice of values, which compiles without a jump.
+    let y = either(
+        i == 0,
+        x,
+        either(i == 1, x1, either(i == 2, x2, either(i == 3, x3, 0))),
+    );
+    y % n
 }
 
 fn either(first: bool, x: u32, y: u32) -> u32
