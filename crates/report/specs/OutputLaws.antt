@@ -15,6 +15,7 @@ use Rattle.rules.specs.Reading.{Answer}
 use Rattle.rules.specs.Writing.{front}
 use Rattle.read.specs.Mirror.{readOf}
 use Rattle.read.specs.Laws.{answers, answers-unique}
+use Rattle.report.specs.declared.Progress.{Progress}
 use Rattle.report.specs.Listing.{lineFeed, linesWith, linesOf, lineText, filesAfter, Turn, Turns, none, more, startFiles, changeText, changesText, registersText, listingLimit, tooLongText, Output, too-long, printed}
 use Rattle.report.specs.Chunks.{lineLength, lineAt, behind, nextPlace, nextNumber, lineRoom, Some, ended, no-room, one-more, Prints, Calls}
 use Rattle.report.specs.Chunks as chunks
@@ -198,23 +199,26 @@ some-one (one-more a b c p x) (ended d) = absurd (omega arith)
 some-one (one-more a b c p x) (no-room d e) = absurd (omega arith)
 some-one (one-more a b c p x) (chunks.too-long d e f) = absurd (omega arith)
 
-pub record SameCall (e d m k len wid : ℕ) (g h : Files) (x y : List ℕ) : Type 0 where
-  pub place : e ≡ d
-  pub number : m ≡ k
-  pub used : len ≡ wid
+pub record SameCall (x y : Progress) (g h : Files) (a b : List ℕ) : Type 0 where
+  pub answer : x ≡ y
   pub files : g ≡ h
-  pub buffer : x ≡ y
+  pub buffer : a ≡ b
 
-pub prints-one : {s out x y : List ℕ} {from n e d m k len wid : ℕ} {f g h : Files} → Prints s from n f out e m len g x → Prints s from n f out d k wid h y
-    → SameCall e d m k len wid g h x y
-prints-one {s} {out} a b =
-    let i = some-one (a .some) (b .some) in
+progress-one : (x y : Progress) → x .at ≡ y .at → x .number ≡ y .number → x .len ≡ y .len → x ≡ y
+progress-one x y a n l =
+    ap (λ (i : ℕ). progress i (x .number) (x .len)) a ∙ ap (λ (i : ℕ). progress (y .at) i (x .len)) n ∙ ap (λ (i : ℕ). progress (y .at) (y .number) i) l
+  where
+    progress : ℕ → ℕ → ℕ → Progress
+    progress i j k = record { at = i; number = j; len = k }
+
+pub prints-one : {s out a b : List ℕ} {from n : ℕ} {f g h : Files} (x y : Progress)
+    → Prints s from n f out (x .at) (x .number) (x .len) g a → Prints s from n f out (y .at) (y .number) (y .len) h b → SameCall x y g h a b
+prints-one {s} {out} x y p q =
+    let i = some-one (p .some) (q .some) in
     record {
-      place = i .place;
-      number = i .number;
-      used = a .length-of ∙ ap length (i .text) ∙ sym (b .length-of);
+      answer = progress-one x y (i .place) (i .number) (p .length-of ∙ ap length (i .text) ∙ sym (q .length-of));
       files = i .files;
-      buffer = a .buffer ∙ ap (λ (t : List ℕ). front t out) (i .text) ∙ sym (b .buffer);
+      buffer = p .buffer ∙ ap (λ (t : List ℕ). front t out) (i .text) ∙ sym (q .buffer);
     }
 
 -- ==== what a caller's loop needs

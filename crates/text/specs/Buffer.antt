@@ -76,3 +76,7 @@ whole-front {bs} {ys} {p} {n} a h =
     let z : 0 + length p ≡ length p = omega arith in
     let e = rw z at (a .text ∙ whole p bs 0 (omega arith)) in
     (ap (λ (x : Buffer). x .next) e, ap (λ (x : Buffer). x .bytes) e)
+
+-- what a text put into a buffer leaves there, and the next place, is one thing
+pub puts-one : {x : Buffer} {p bs cs : List ℕ} {n m : ℕ} → Puts x p (buffer bs n) → Puts x p (buffer cs m) → (n ≡ m) × (bs ≡ cs)
+puts-one a b = let e = a .text ∙ sym (b .text) in (ap (λ (y : Buffer). y .next) e, ap (λ (y : Buffer). y .bytes) e)

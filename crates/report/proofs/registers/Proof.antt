@@ -1,3 +1,12 @@
+use Rattle.report.proofs.registers.Kinds as kinds
+use Rattle.report.proofs.registers.Reads as reads
+use Rattle.report.specs.Registers.{Outcome, answers-one}
+use Rattle.report.specs.declared.Printed.{Printed}
+use Rattle.base.specs.Promise.{one-outcome}
+use mathlib.Core.Path.{_≡_, ap}
+use denote.Triple.Clauses.{AtExit}
+use borrow.Fn.Kinds.{Dens, endedOf}
+use contract.Lifetimes.{Lfts}
 use denote.Ref.{now}
 use Rattle.rules.specs.Executing.{files}
 use Rattle.text.specs.Buffer.{_then_}
@@ -41,3 +50,12 @@ registers-spec =
     put-file-requires-3
     same-length
     returns-2)
+
+-- no two outcomes, answer and buffer left, satisfy the contract as it stands in src/lib.rt
+pub registers-one-outcome :
+    (κs : Lfts 4) (a : Dens κs kinds.ps) (x y : Printed) (s t : AtExit (endedOf 4 kinds.ps kinds.r) κs)
+    → reads.Post κs a x s → reads.Post κs a y t
+    → (x ≡ y) × (now (s .1 .1 .1 .0) ≡ now (t .1 .1 .1 .0))
+registers-one-outcome κs a x y s t p q =
+    let z = one-outcome p q in
+    (answers-one x y (ap (λ (o : Outcome). o .answer) z), ap (λ (o : Outcome). o .buffer) z)

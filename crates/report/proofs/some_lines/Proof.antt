@@ -1,3 +1,10 @@
+use Rattle.report.proofs.some_lines.Kinds as kinds
+use Rattle.report.proofs.some_lines.Reads as reads
+use Rattle.report.specs.OutputLaws.{SameCall, prints-one}
+use Rattle.report.specs.declared.Progress.{Progress}
+use denote.Triple.Clauses.{AtExit}
+use borrow.Fn.Kinds.{Dens, endedOf}
+use contract.Lifetimes.{Lfts}
 use denote.Ref.{now}
 use Rattle.rules.specs.Executing.{files}
 use borrow.Author.Needs.{needs}
@@ -44,3 +51,10 @@ some-lines-spec =
     same-length-4
     same-length-5
     returns-2)
+
+-- no two outcomes, answer, files and buffer left, satisfy the contract as it stands in src/lib.rt
+pub some-lines-one-outcome :
+    (κs : Lfts 5) (a : Dens κs kinds.ps) (x y : Progress) (s t : AtExit (endedOf 5 kinds.ps kinds.r) κs)
+    → reads.Post κs a x s → reads.Post κs a y t
+    → SameCall x y (files (now (s .1 .1 .1 .0)) (now (s .1 .1 .1 .1 .0)) (now (s .1 .1 .1 .1 .1 .0))) (files (now (t .1 .1 .1 .0)) (now (t .1 .1 .1 .1 .0)) (now (t .1 .1 .1 .1 .1 .0))) (now (s .1 .1 .1 .1 .1 .1 .0)) (now (t .1 .1 .1 .1 .1 .1 .0))
+some-lines-one-outcome κs a x y s t p q = prints-one x y p q

@@ -1,8 +1,14 @@
+use Rattle.report.proofs.start_doubles.Kinds as kinds
+use Rattle.report.proofs.start_doubles.Reads as reads
+use Rattle.base.specs.Promise.{one-outcome}
+use denote.Triple.Clauses.{AtExit}
+use borrow.Fn.Kinds.{Dens, endedOf}
+use contract.Lifetimes.{Lfts}
 use borrow.Author.Needs.{needs}
-use Prim.Native.Nat.{_-_, _≤_}
+use Prim.Native.Nat.{ℕ, _-_, _≤_}
 use native.Mathlib.Omega.{arith}
 use mathlib.Core.Path.{_≡_, refl}
-use mathlib.Core.List.{_++_}
+use mathlib.Core.List.{List, _++_}
 use lib.ListN.{drop, replicate}
 use Rattle.base.specs.Lists.{tab}
 use Rattle.rules.specs.Executing.{double}
@@ -53,3 +59,9 @@ start-doubles-spec =
     loop-less
     loop-again
     returns)
+
+-- no two outcomes satisfy the contract as it stands in src/lib.rt
+pub start-doubles-one-outcome :
+    (κs : Lfts 0) (a : Dens κs kinds.ps) (x y : List ℕ) (s t : AtExit (endedOf 0 kinds.ps kinds.r) κs)
+    → reads.Post κs a x s → reads.Post κs a y t → x ≡ y
+start-doubles-one-outcome κs a x y s t p q = one-outcome p q

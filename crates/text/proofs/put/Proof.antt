@@ -1,3 +1,9 @@
+use Rattle.text.specs.Buffer.{buffer, Puts, same, _then_, puts-one}
+use contract.Lifetimes.{Lfts}
+use denote.Triple.Clauses.{AtExit}
+use borrow.Fn.Kinds.{Dens, endedOf}
+use Rattle.text.proofs.put.Reads as reads
+use Rattle.text.proofs.put.Kinds as kinds
 -- The invariant: the first k bytes of the text are put.
 use Prim.Native.Nat.{ℕ, _≤_, _-_}
 use native.Mathlib.Numerals.{add-one}
@@ -6,7 +12,6 @@ use lib.ListN.{length, take}
 use lib.Seq.{take-suc, take-all}
 use denote.Ref.{now}
 use borrow.Author.Needs.{needs}
-use Rattle.text.specs.Buffer.{buffer, Puts, same, _then_}
 use Rattle.text.proofs.put.Statement.{statement}
 use Rattle.text.proofs.put.Tie as tie
 
@@ -60,3 +65,10 @@ put-spec =
     loop-again
     same-length
     returns)
+
+-- no two outcomes, place and buffer left, satisfy the contract as it stands in src/lib.rt
+pub put-one-outcome :
+    (κs : Lfts 2) (a : Dens κs kinds.ps) (x y : ℕ) (s t : AtExit (endedOf 2 kinds.ps kinds.r) κs)
+    → reads.Post κs a x s → reads.Post κs a y t
+    → (x ≡ y) × (now (s .0) ≡ now (t .0))
+put-one-outcome κs a x y s t p q = puts-one p q
