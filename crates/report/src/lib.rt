@@ -11,7 +11,6 @@ ghost use lib.ListN.{length, drop, getD};
 ghost use Rattle.record.specs.Refusals.{Legal};
 ghost use Rattle.rules.specs.Executing.{word, Files, files, done, skipped, run};
 ghost use Rattle.rules.specs.ExecutionLaws as execution;
-ghost use Rattle.rules.specs.Shape.{registerText};
 ghost use Rattle.rules.specs.StandardLine.{standard};
 ghost use Rattle.execute.specs.Answers as executed;
 ghost use Rattle.text.specs.Buffer.{buffer, Puts};

@@ -7,7 +7,7 @@ use mathlib.Core.Path.{_≡_, refl, sym, ap, _∙_}
 use mathlib.Core.Bool.{cond}
 use mathlib.Core.List.{List, [], _∷_, _++_, append-nil}
 use lib.ListN.{length, take, drop, set, length-set, take-append-drop}
-use lib.Seq.{take-suc-set, drop-set-lt, append-snoc}
+use lib.Seq.{paste, take-length, take-suc-set, drop-set-lt, append-snoc}
 use lib.Dec.{ltb}
 use borrow.Author.Tests.{lt-ltb, le-ltb}
 
@@ -76,6 +76,10 @@ whole-front {bs} {ys} {p} {n} a h =
     let z : 0 + length p ≡ length p = omega arith in
     let e = rw z at (a .text ∙ whole p bs 0 (omega arith)) in
     (ap (λ (x : Buffer). x .next) e, ap (λ (x : Buffer). x .bytes) e)
+
+-- a text that has room, pasted into the buffer
+pub pasted : (p bs : List ℕ) (n : ℕ) → n + length p ≤ length bs → Puts (buffer bs n) p (buffer (paste bs n p (length p)) (n + length p))
+pasted p bs n h = record { text = rw (take-length p) (sym (whole p bs n h)) }
 
 -- what a text put into a buffer leaves there, and the next place, is one thing
 pub puts-one : {x : Buffer} {p bs cs : List ℕ} {n m : ℕ} → Puts x p (buffer bs n) → Puts x p (buffer cs m) → (n ≡ m) × (bs ≡ cs)

@@ -1,6 +1,9 @@
 // Texts put into a lent buffer from a place on. What has no room is left out, so that no text asks for any.
 ghost use mathlib.Core.Path.{_≡_};
 ghost use mathlib.Core.List.{[], _∷_};
+ghost use Prim.Native.Nat.{_+_, _-_, _≤_};
+ghost use lib.ListN.{length};
+ghost use lib.Seq.{paste};
 ghost use Rattle.text.specs.Buffer.{buffer, Puts};
 ghost use Rattle.text.specs.Digits.{decimal, hexDigit, hex};
 
@@ -15,8 +18,30 @@ pub fn push(out: &mut [u8], at: usize, b: u8) -> usize
     at + 1
 }
 
-// All bytes of a text.
-pub fn put(out: &mut [u8], at: usize, text: &[u8]) -> usize
+// How many bytes stand from a place to the end.
+fn room(size: usize, at: usize) -> usize
+    ensures { λ r. ⌜ r ≡ size - at ⌝ }
+{
+    if size < at {
+        return 0;
+    }
+    size - at
+}
+
+// A text that has room, without asking for each byte.
+fn copy(out: &mut [u8], at: usize, text: &[u8])
+    requires { ⌜ at + length (now text) ≤ length (now out) ⌝ }
+    ensures { λ _. ⌜ now (out .exit) ≡ paste (now (out .entry)) at (now (text .entry)) (length (now (text .entry))) ⌝ }
+{
+    let mut i = 0;
+    while i < text.len() {
+        out[at + i] = text[i];
+        i += 1;
+    }
+}
+
+// As much of a text as there is room for.
+fn put_some(out: &mut [u8], at: usize, text: &[u8]) -> usize
     ensures { λ r. ⌜ Puts (buffer (now (out .entry)) at) (now (text .entry)) (buffer (now (out .exit)) r) ⌝ }
 {
     let mut next = at;
@@ -26,6 +51,17 @@ pub fn put(out: &mut [u8], at: usize, text: &[u8]) -> usize
         k += 1;
     }
     next
+}
+
+// All bytes of a text.
+pub fn put(out: &mut [u8], at: usize, text: &[u8]) -> usize
+    ensures { λ r. ⌜ Puts (buffer (now (out .entry)) at) (now (text .entry)) (buffer (now (out .exit)) r) ⌝ }
+{
+    if text.len() < room(out.len(), at) {
+        copy(out, at, text);
+        return at + text.len();
+    }
+    put_some(out, at, text)
 }
 
 // A number in decimal.

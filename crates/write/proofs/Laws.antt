@@ -11,7 +11,7 @@ use Rattle.record.specs.Refusals.{isLegal}
 use Rattle.record.specs.declared.Record.{Record}
 use Rattle.rules.specs.StandardLine.{standard}
 use Rattle.rules.specs.LineLengths.{longestLine, standard-length}
-use Rattle.rules.specs.Writing.{written, refused, front, outcome, writing}
+use Rattle.rules.specs.Writing.{written, refused, outcome, writing}
 use Rattle.text.specs.Buffer.{buffer, Puts, whole-front}
 
 pub ends-illegal : (x : Record) (b : List ℕ) → isLegal x ≡ false → outcome (refused 8) b ≡ writing x b
@@ -35,6 +35,8 @@ module _ (x : Record) (legal : isLegal x ≡ true) {bs ys : List ℕ} {n : ℕ} 
   unfolding writing
   ends-short b h = rw (legal, lt-ltb (length b) (length (standard x)) (omega (arith, there .0)))
 
-  pub ends-written : (b : List ℕ) {u : List ℕ} → n ≤ length b → u ≡ front (take n ys) b → outcome (written n) u ≡ writing x b
+  pub ends-written : (b : List ℕ) {u : List ℕ} {m : ℕ} → n ≤ length b → Puts (buffer b 0) (take n ys) (buffer u m) → outcome (written n) u ≡ writing x b
   unfolding writing
-  ends-written b {u} h e = rw (legal, le-ltb (length b) (length (standard x)) (omega (arith, there .0)), e, line, there .0)
+  ends-written b {u} {m} h p =
+      let k : length (standard x) ≤ length b = omega (arith, there .0) in
+      rw (legal, le-ltb (length b) (length (standard x)) k, whole-front (rw line at p) k .1, there .0) refl

@@ -33,8 +33,6 @@ use record::Word;
 ghost use mathlib.Core.Path.{_≡_};
 ghost use mathlib.Core.Bool.{cond};
 ghost use mathlib.Core.List.{[], _∷_, _++_};
-ghost use Prim.Native.Nat.{_≤_};
-ghost use lib.ListN.{length};
 ghost use Rattle.base.specs.Text.{bytes};
 ghost use Rattle.rules.specs.Executing.{operandPlace, double};
 ghost use Rattle.record.specs.declared.CmpOp.the-variants.{Unsigned, Float};
@@ -42,7 +40,7 @@ ghost use Rattle.record.specs.declared.Instruction.the-variants.{Arithmetic, Vs
 ghost use Rattle.rules.specs.Shape.{bare, digit, numberText, registerText, dotted, headText, operandText};
 ghost use Rattle.rules.specs.Names.{videoTypeName, setTypeName, typeName, sixName, cmpName, boolName, op2Name, arithName, lanesName, when, formOp2, combinationNames, headNames, selectorName, laneLetter, maskName, digitsName};
 ghost use Rattle.rules.specs.StandardLine.{r, p, selectedTree, formTree, formLast, sameMask, sameDigits, maskTree, digitsTree, conditionTree, combinationLast, destinationTree, scalarTrees, lanesTrees, sourceTrees, choiceTrees, operandTrees, guardPart, further, operandsText, standard};
-ghost use Rattle.rules.specs.Writing.{front, outcome, writing};
+ghost use Rattle.rules.specs.Writing.{outcome, writing};
 ghost use Rattle.text.specs.Buffer.{buffer, Puts};
 ghost use Rattle.write.specs.Pieces.{choiceText};
 ghost use Rattle.write.specs.Answers.{answerOf};
@@ -753,18 +751,6 @@ fn standard_line(out: &mut [u8], x: Record) -> usize
 
 // ---- the entry point
 
-// All of src to the front of dst.
-fn copy_front(src: &[u8], dst: &mut [u8])
-    requires { ⌜ length (now src) ≤ length (now dst) ⌝ }
-    ensures { λ _. ⌜ now (dst .exit) ≡ front (now (src .entry)) (now (dst .entry)) ⌝ }
-{
-    let mut i = 0;
-    while i < src.len() {
-        dst[i] = src[i];
-        i += 1;
-    }
-}
-
 // The record's standard line at the front of buf. A refusal changes nothing.
 pub fn write(x: Record, buf: &mut [u8]) -> Written
     ensures { λ m. ⌜ outcome (answerOf m) (now (buf .exit)) ≡ writing x (now (buf .entry)) ⌝ }
@@ -777,6 +763,6 @@ pub fn write(x: Record, buf: &mut [u8]) -> Written
     if buf.len() < n {
         return Written::Refused(TOO_SHORT);
     }
-    copy_front(&line[..n], buf);
+    text::put(buf, 0, &line[..n]);
     Written::Length(n)
 }

@@ -32,22 +32,22 @@ returns-2 : tie.Need-returns-2
 returns-2 c = ends-short _ (sym (c .before .before .before .before .before .legal .ensures) ∙ not-false _ (c .before .before .before .before .if1 .left)) (search needs) (c .before .before .standard-line .ensures) _ (c .if2 .taken)
 
 array-share-prefix-line : tie.Need-array-share-prefix-line
-array-share-prefix-line c = fits _ (sym (c .before .before .before .before .before .legal .ensures) ∙ not-false _ (c .before .before .before .before .if1 .left)) (search needs) (c .before .before .standard-line .ensures)
+array-share-prefix-line c = fits _ (sym (c .before .before .before .before .before .before .legal .ensures) ∙ not-false _ (c .before .before .before .before .before .if1 .left)) (search needs) (c .before .before .before .standard-line .ensures)
 
-slice-aggregate-copy-front : tie.Need-slice-aggregate-copy-front
-slice-aggregate-copy-front c = sym (length-take-le _ _ (fits _ (sym (c .before .before .before .before .before .before .legal .ensures) ∙ not-false _ (c .before .before .before .before .before .if1 .left)) (search needs) (c .before .before .before .standard-line .ensures)))
+slice-aggregate-put : tie.Need-slice-aggregate-put
+slice-aggregate-put c = sym (length-take-le _ _ (fits _ (sym (c .before .before .before .before .before .before .before .legal .ensures) ∙ not-false _ (c .before .before .before .before .before .before .if1 .left)) (search needs) (c .before .before .before .before .standard-line .ensures)))
 
-copy-front-requires : tie.Need-copy-front-requires
-copy-front-requires c κs = rw (length-take-le _ _ (fits _ (sym (c .before .before .before .before .before .before .before .legal .ensures) ∙ not-false _ (c .before .before .before .before .before .before .if1 .left)) (search needs) (c .before .before .before .before .standard-line .ensures))) (c .before .before .if2 .left)
+put-requires : tie.Need-put-requires
+put-requires c κs = tt
 
 same-length : tie.Need-same-length
 same-length c = search needs
 
 returns-3 : tie.Need-returns-3
-returns-3 c = ends-written _ (sym (c .before .before .before .before .before .before .before .before .before .before .legal .ensures) ∙ not-false _ (c .before .before .before .before .before .before .before .before .before .if1 .left)) (search needs) (c .before .before .before .before .before .before .before .standard-line .ensures) _ (c .before .before .before .before .before .if2 .left) (c .before .before .copy-front .ensures)
+returns-3 c = ends-written _ (sym (c .before .before .before .before .before .before .before .before .before .before .legal .ensures) ∙ not-false _ (c .before .before .before .before .before .before .before .before .before .if1 .left)) (search needs) (c .before .before .before .before .before .before .before .standard-line .ensures) _ (c .before .before .before .before .before .if2 .left) (c .before .before .put .ensures)
 
 pub write-spec : {M : Type 1} → statement M
-write-spec = tie.close (tie.spec legal-requires returns slice-aggregate-standard-line standard-line-requires returns-2 array-share-prefix-line slice-aggregate-copy-front copy-front-requires same-length returns-3)
+write-spec = tie.close (tie.spec legal-requires returns slice-aggregate-standard-line standard-line-requires returns-2 array-share-prefix-line slice-aggregate-put put-requires same-length returns-3)
 
 -- no two outcomes, answer and buffer left, satisfy the contract as it stands in src/lib.rt
 pub write-one-outcome :
