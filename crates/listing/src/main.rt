@@ -3,6 +3,8 @@ use libc::STDIN_FILENO;
 use libc::STDOUT_FILENO;
 use report::Printed;
 ghost use Prim.Native.Nat.{_≤_};
+ghost use mathlib.Core.Path.{_≡_};
+ghost use mathlib.Core.Bool.{true};
 ghost use lib.ListN.{length};
 ghost use Rattle.rules.specs.Executing.{files};
 ghost use Rattle.report.specs.Chunks.{lineRoom};
@@ -11,37 +13,42 @@ ghost use Rattle.report.specs.OutputLaws.{Told};
 // One byte more than a listing may have: a longer input is seen to be too long.
 const INPUT: usize = 65537;
 
-fn say_first(s: &[u8], n: usize) {
-    if n <= s.len() {
-        io::write_all(STDOUT_FILENO, &s[0..n]);
+// Whether the system took all of the first n bytes.
+fn say_first(s: &[u8], n: usize) -> bool {
+    if s.len() < n {
+        return false;
     }
+    io::write_all(STDOUT_FILENO, &s[0..n])
 }
 
-// Calls `some_lines` until the listing ends, and prints what each call has put into the buffer.
+// Calls `some_lines` until the listing ends, and prints what each call has put into the buffer; false, and no more is printed, where the system does not take it.
 fn say_lines(
     listing: &[u8],
     words: &mut [u32],
     doubles: &mut [u64],
     preds: &mut [u8],
     out: &mut [u8],
-)
+) -> bool
     requires { ⌜ lineRoom ≤ length (now out) ⌝ }
-    ensures { λ _. ⌜ Told (now (listing .entry)) (files (now (words .entry)) (now (doubles .entry)) (now (preds .entry))) (files (now (words .exit)) (now (doubles .exit)) (now (preds .exit))) ⌝ }
+    ensures { λ r. ⌜ (r ≡ true → Told (now (listing .entry)) (files (now (words .entry)) (now (doubles .entry)) (now (preds .entry))) (files (now (words .exit)) (now (doubles .exit)) (now (preds .exit)))) ⌝ }
 {
     let mut at = 0;
     let mut number = 1;
     while at < listing.len() {
         let p = report::some_lines(listing, at, number, words, doubles, preds, out);
-        say_first(out, p.len);
+        if !say_first(out, p.len) {
+            return false;
+        }
         at = p.at;
         number = p.number;
     }
+    true
 }
 
 fn say_registers(words: &[u32], doubles: &[u64], preds: &[u8], out: &mut [u8]) {
-    match report::registers(words, doubles, preds, out) {
-        Printed::Length(n) => say_first(out, n),
-        Printed::NoRoom => {}
+    // The caller's buffer is longer than all registers' texts, so there is room.
+    if let Printed::Length(n) = report::registers(words, doubles, preds, out) {
+        say_first(out, n);
     }
 }
 
@@ -50,14 +57,13 @@ fn say_listing(listing: &[u8]) {
     let mut doubles = report::start_doubles();
     let mut preds = report::start_preds();
     let mut out = [0u8; 65536];
-    say_lines(listing, &mut words, &mut doubles, &mut preds, &mut out);
-    say_registers(&words, &doubles, &preds, &mut out);
+    if say_lines(listing, &mut words, &mut doubles, &mut preds, &mut out) {
+        say_registers(&words, &doubles, &preds, &mut out);
+    }
 }
 
 fn main() {
     let mut input = [0u8; INPUT];
     let n = io::read_full(STDIN_FILENO, &mut input);
-    if n <= INPUT {
-        say_listing(&input[0..n]);
-    }
+    say_listing(&input[..n]);
 }

@@ -50,13 +50,6 @@ further-on size from end h k = go (ltb end size) refl
     go true e = omega arith
     go false e = let m : size ≤ end = ltb-false end size e in omega arith
 
-pub not-past : (size end : ℕ) → end ≤ size → behind size end ≤ size
-not-past size end h = go (ltb end size) refl
-  where
-    go : (t : Bool) → ltb end size ≡ t → cond t (end + 1) end ≤ size
-    go true e = let m : end < size = ltb-true end size e in omega arith
-    go false e = omega arith
-
 -- ==== how long a line's text is
 
 pub legal-of : {l : List ℕ} {r : Record} → Answers l (read r) → Legal r

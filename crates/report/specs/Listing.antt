@@ -20,6 +20,14 @@ use Rattle.text.specs.Digits.{decimal, hex}
 abbrev pub lineFeed : ℕ
 lineFeed = 10
 
+-- The listing program reads standard input, at most 65,536 bytes
+abbrev pub listingLimit : ℕ
+listingLimit = 65536
+
+-- (more: it prints `input too long` alone)
+abbrev pub tooLongText : List ℕ
+tooLongText = bytes "input too long" ++ (lineFeed ∷ [])
+
 -- ==== the lines of a listing
 
 -- a last one without a line feed counts if not empty
@@ -107,13 +115,6 @@ unfoldable pub registersText : Files → List ℕ
 registersText f = changesText word wordCount f ++ changesText double doubleCount f ++ changesText pred predCount f
 
 -- ==== the whole output
-
--- at most 65,536 bytes
-abbrev pub listingLimit : ℕ
-listingLimit = 65536
-
-abbrev pub tooLongText : List ℕ
-tooLongText = bytes "input too long" ++ (lineFeed ∷ [])
 
 pub data Output (s : List ℕ) : List ℕ → Type 0 where
   -- more: it prints `input too long` alone

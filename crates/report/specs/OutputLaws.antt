@@ -256,10 +256,14 @@ called {s} {out} c i r p =
       rest = λ {u = u} x. rw (append-assoc (c .text) (p .text) u) (c .rest (chunks.more {room = length out} i r (p .some) x));
     }
 
--- what the program prints in all
+-- calls until the listing ends have left the files g, and printed some text
 pub record Told (s : List ℕ) (f g : Files) : Type 0 where
   pub text : List ℕ
   pub calls : Calls s 0 1 f text g
+
+-- with the registers' text behind it that is the listing's output
+pub told-output : {s : List ℕ} {g : Files} (a : Told s startFiles g) → Output s (a .text ++ registersText g)
+told-output {s} a = calls-output s (a .calls)
 
 pub told : {s : List ℕ} {from n : ℕ} {f g : Files} → Called s f from n g → length s ≤ from → Told s f g
 told {s} {from} {n} {f} {g} c h = record { text = c .text ++ []; calls = c .rest (chunks.none h) }

@@ -9,6 +9,7 @@ ghost use Prim.Native.Nat.{_+_, _≤_, _<_};
 ghost use lib.Dec.{ltb, leb};
 ghost use lib.ListN.{length, drop, getD};
 ghost use Rattle.record.specs.Refusals.{Legal};
+ghost use Rattle.record.specs.Registers.{wordCount};
 ghost use Rattle.rules.specs.Executing.{word, Files, files, done, skipped, run};
 ghost use Rattle.rules.specs.ExecutionLaws as execution;
 ghost use Rattle.rules.specs.StandardLine.{standard};
@@ -27,6 +28,12 @@ const LINE_ROOM: usize = 98;
 const REGISTERS_ROOM: usize = 2576;
 
 const LINE_FEED: u8 = 10;
+
+// At the start word N is N times this.
+const ONES: u32 = 0x0101_0101;
+
+// Room for any standard line.
+const STANDARD_ROOM: usize = 160;
 
 // How far a listing is printed: the place and the number of the next line, and how many bytes of the lent buffer were used.
 pub struct Progress {
@@ -47,7 +54,7 @@ fn put_standard(out: &mut [u8], at: usize, r: Record) -> usize
     requires { ⌜ Legal r ⌝ }
     ensures { λ m. ⌜ Puts (buffer (now (out .entry)) at) (standard r) (buffer (now (out .exit)) m) ⌝ }
 {
-    let mut line = [0u8; 160];
+    let mut line = [0u8; STANDARD_ROOM];
     match bench::write(r, &mut line) {
         Written::Length(n) => text::put(out, at, &line[0..n]),
         Written::Refused(_) => at,
@@ -250,10 +257,10 @@ enum File {
 }
 
 fn start_word(n: usize) -> u32
-    requires { ⌜ n < 64 ⌝ }
+    requires { ⌜ n < wordCount ⌝ }
     ensures { λ m. ⌜ m ≡ startValue (word n) ⌝ }
 {
-    n as u32 * 0x0101_0101
+    n as u32 * ONES
 }
 
 // The registers as they are at the start of a listing.

@@ -1,7 +1,7 @@
 // Texts put into a lent buffer from a place on. What has no room is left out, so that no text asks for any.
 ghost use mathlib.Core.Path.{_≡_};
 ghost use mathlib.Core.List.{[], _∷_};
-ghost use Prim.Native.Nat.{_+_, _-_, _≤_};
+ghost use Prim.Native.Nat.{_+_, _-_, _≤_, _<_};
 ghost use lib.ListN.{length};
 ghost use lib.Seq.{paste};
 ghost use Rattle.text.specs.Buffer.{buffer, Puts};
@@ -76,12 +76,13 @@ pub fn put_decimal(out: &mut [u8], at: usize, n: u64) -> usize
 }
 
 fn hex_digit(d: u8) -> u8
+    requires { ⌜ d < 16 ⌝ }
     ensures { λ r. ⌜ r ≡ hexDigit d ⌝ }
 {
     if d < 10 {
         return d + b'0';
     }
-    d % 16 + b'A' - 10
+    d - 10 + b'A'
 }
 
 // The last so many hexadecimal digits of a number.
