@@ -4,5 +4,7 @@ pub mod Tests
 pub mod Moved
 pub mod Text
 pub mod Bytes
+pub mod Values
 pub mod Pack
+pub mod PackLaws
 pub mod Lookup

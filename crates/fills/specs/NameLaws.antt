@@ -19,7 +19,7 @@ use Rattle.record.specs.declared.Digits.{Digits}
 use Rattle.rules.specs.Shape.{Name, digit}
 use Rattle.rules.specs.Names.{selectorName, maskName, digitsName}
 use Rattle.rules.specs.Grammar.{GoodName}
-use Rattle.tree.specs.CodeLaws.{code-known}
+use Rattle.base.specs.PackLaws.{code-known}
 use Rattle.base.specs.Lookup.{found}
 use Rattle.fills.specs.Selectors.{selectors, selectorOf, halfMasks, byteMasks, halfMask, byteMask, maskOf, digitsIn, digitsOf}
 use Rattle.fills.specs.declared.SelectorFound

@@ -6,6 +6,7 @@ use mathlib.Core.Bool.{Bool, true, false}
 use mathlib.Core.List.{List, [], _∷_, _++_}
 use Rattle.base.specs.Pack.{codeOf}
 use Rattle.base.specs.Text.{bytes}
+use Rattle.base.specs.PackLaws.{short-code}
 use Rattle.record.specs.Modifiers.{instructionModifiersFit}
 use Rattle.record.specs.declared.VideoType.{VideoType}
 use Rattle.record.specs.declared.SetType.{SetType}
@@ -28,8 +29,8 @@ use Rattle.rules.specs.Names.{videoTypeName, setTypeName, typeName, sixName, cm
 use Rattle.tree.specs.Seen.{seenHead}
 use Rattle.tree.specs.Blank.{noWord, noPred, blankForm, blankCombination, blankChoice, blank}
 use Rattle.tree.specs.declared.Head.{Head}
-use Rattle.heads.specs.declared.Opcode
-use Rattle.heads.specs.declared.Opcode.{Opcode}
+use Rattle.names.specs.declared.Opcode
+use Rattle.names.specs.declared.Opcode.{Opcode}
 use Rattle.heads.specs.declared.Read
 use Rattle.heads.specs.declared.Read.{Read}
 use Rattle.heads.specs.declared.Sides
@@ -43,7 +44,8 @@ use Rattle.heads.specs.declared.Found
 use Rattle.heads.specs.declared.Found.{Found}
 use Rattle.heads.specs.Tables.{slctTypeOf}
 use Rattle.heads.specs.Rows.{nameAt, past, wholeOf, scalarOf, lanesOf, comparisonOf, sidesBy, sidesAt, comparedBy, comparedOf, endingBy, endingAt, arithmeticBy, arithmeticOf, vsetBy, vsetOf, lanesBy, lanesRow, testAt, testedBy, testedOf, setBy, setAt, setFrom, setOf, setpBy, setpAt, setpFrom, setpOf, selpBy, selpOf, slctBy, slctAt, slctOf, readOf, foundOf, rowBy, rowOf}
-use Rattle.heads.specs.NameLaws.{opcodeName, opcode-complete, video-complete, set-type-complete, type-complete, six-complete, cmp-complete, bool-complete, op2-complete, op2-none, op2-sat, Skips, type-skips, set-type-skips, ftz-bool, sat-code, ftz-code, s32-code, f32-code}
+use Rattle.names.specs.Back.{opcodeName, opcode-complete, video-complete, set-type-complete, type-complete, six-complete, cmp-complete, bool-complete, op2-complete}
+use Rattle.heads.specs.NameLaws.{op2-none, op2-sat, Skips, type-skips, set-type-skips, ftz-bool}
 
 -- ==== scalar arithmetic, vset, vset2, vset4
 
@@ -73,9 +75,9 @@ arithmetic-complete : (op : Arith) (d a b : VideoType) (sat : Bool) (f : Form)
     → arithmeticOf op (seenHead (arithName op ∷ videoTypeName d ∷ videoTypeName a ∷ videoTypeName b ∷ (when sat (bytes "sat") ++ formOp2 f)))
     ≡ Read.Is (Arithmetic op d sat (scalarOf a b (blankForm f)))
 unfolding arithmeticOf arithmeticBy sidesAt sidesBy endingAt endingBy wholeOf nameAt seenHead
-arithmetic-complete op d a b true (Plain e) = rw (sat-code, video-complete d, video-complete a, video-complete b, op2-none)
-arithmetic-complete op d a b true (Merge e sel g) = rw (sat-code, video-complete d, video-complete a, video-complete b, op2-none)
-arithmetic-complete op d a b true (Combine o e g) = rw (sat-code, video-complete d, video-complete a, video-complete b, op2-complete o)
+arithmetic-complete op d a b true (Plain e) = rw (short-code (bytes "sat") refl, video-complete d, video-complete a, video-complete b, op2-none)
+arithmetic-complete op d a b true (Merge e sel g) = rw (short-code (bytes "sat") refl, video-complete d, video-complete a, video-complete b, op2-none)
+arithmetic-complete op d a b true (Combine o e g) = rw (short-code (bytes "sat") refl, video-complete d, video-complete a, video-complete b, op2-complete o)
 arithmetic-complete op d a b false (Plain e) = rw (video-complete d, video-complete a, video-complete b, op2-none)
 arithmetic-complete op d a b false (Merge e sel g) = rw (video-complete d, video-complete a, video-complete b, op2-none)
 arithmetic-complete op d a b false (Combine o e g) = rw (op2-sat o, video-complete d, video-complete a, video-complete b, op2-complete o)
@@ -93,9 +95,9 @@ testOf c b ftz = record { cmp = c; combination = blankCombination b; ftz = ftz; 
 tested-complete : (op : Name) (c : CmpOp) (b : Combination) (ftz : Bool) (w : Name) (ns : List Name) → Skips w
     → testedOf (seenHead (op ∷ cmpName c ∷ (combinationNames b ++ when ftz (bytes "ftz") ++ w ∷ ns))) ≡ Tested.Is (testOf c b ftz)
 unfolding testedOf testedBy testAt nameAt seenHead
-tested-complete op c Alone true w ns h = rw (ftz-code, cmp-complete c, ftz-bool)
+tested-complete op c Alone true w ns h = rw (short-code (bytes "ftz") refl, cmp-complete c, ftz-bool)
 tested-complete op c Alone false w ns h = rw (cmp-complete c, h .bool, h .ftz)
-tested-complete op c (With o e) true w ns h = rw (ftz-code, cmp-complete c, bool-complete o)
+tested-complete op c (With o e) true w ns h = rw (short-code (bytes "ftz") refl, cmp-complete c, bool-complete o)
 tested-complete op c (With o e) false w ns h = rw (cmp-complete c, bool-complete o, h .ftz)
 
 set-at-complete : (d : SetType) (c : CmpOp) (b : Combination) (ftz : Bool) (s : DataType)
@@ -136,13 +138,13 @@ selp-complete t = rw (type-complete t)
 
 slct-s32 : (t : DataType) → slctOf (seenHead (bytes "slct" ∷ typeName t ∷ bytes "s32" ∷ [])) ≡ Read.Is (Slct SlctType.S32 (blankChoice t) noWord)
 unfolding slctOf slctAt slctBy slctTypeOf wholeOf nameAt seenHead
-slct-s32 t = rw (type-skips t .ftz, s32-code, type-complete t)
+slct-s32 t = rw (type-skips t .ftz, short-code (bytes "s32") refl, type-complete t)
 
 slct-f32 : (ftz : Bool) (t : DataType)
     → slctOf (seenHead (bytes "slct" ∷ (when ftz (bytes "ftz") ++ typeName t ∷ bytes "f32" ∷ []))) ≡ Read.Is (Slct (SlctType.F32 ftz) (blankChoice t) noWord)
 unfolding slctOf slctAt slctBy slctTypeOf wholeOf nameAt seenHead
-slct-f32 true t = rw (ftz-code, f32-code, type-complete t)
-slct-f32 false t = rw (type-skips t .ftz, f32-code, type-complete t)
+slct-f32 true t = rw (short-code (bytes "ftz") refl, short-code (bytes "f32") refl, type-complete t)
+slct-f32 false t = rw (type-skips t .ftz, short-code (bytes "f32") refl, type-complete t)
 
 -- ==== the table
 

@@ -8,7 +8,7 @@ use mathlib.Core.List.{List, [], _∷_, _++_, map}
 use borrow.Author.Tests.{eqb-true, ltb-true}
 use lib.Dec.{eqb, ltb}
 use lib.ListN.{length, getD, take, drop, replicate, drop-of-length-le}
-use Rattle.base.specs.Pack.{codeOf}
+use Rattle.base.specs.Pack.{codeOf, isShortName, CodeOf}
 use Rattle.base.specs.Text.{bytes}
 use Rattle.record.specs.declared.VideoType.{VideoType}
 use Rattle.record.specs.declared.SlctType
@@ -33,27 +33,27 @@ use Rattle.rules.specs.Reading.{opcodes, Listed}
 use Rattle.rules.specs.Reading.Listed.{here, later}
 use Rattle.tree.specs.Seen.{namesKept, seenHead}
 use Rattle.tree.specs.Blank.{noWord, noPred, noCondition, blankForm, blankCombination, blankChoice, blank}
-use Rattle.tree.specs.CodeLaws.{CodeOf, isShortName, short-name, code-positive, code-known}
-use Rattle.heads.specs.declared.Opcode
-use Rattle.heads.specs.declared.Opcode.{Opcode}
-use Rattle.heads.specs.declared.OpcodeName
-use Rattle.heads.specs.declared.OpcodeName.{OpcodeName}
-use Rattle.heads.specs.declared.VideoName
-use Rattle.heads.specs.declared.VideoName.{VideoName}
-use Rattle.heads.specs.declared.SetName
-use Rattle.heads.specs.declared.SetName.{SetName}
-use Rattle.heads.specs.declared.TypeName
-use Rattle.heads.specs.declared.TypeName.{TypeName}
+use Rattle.base.specs.PackLaws.{short-name, short-code, code-positive, code-known}
+use Rattle.names.specs.declared.Opcode
+use Rattle.names.specs.declared.Opcode.{Opcode}
+use Rattle.names.specs.declared.OpcodeName
+use Rattle.names.specs.declared.OpcodeName.{OpcodeName}
+use Rattle.names.specs.declared.VideoName
+use Rattle.names.specs.declared.VideoName.{VideoName}
+use Rattle.names.specs.declared.SetName
+use Rattle.names.specs.declared.SetName.{SetName}
+use Rattle.names.specs.declared.TypeName
+use Rattle.names.specs.declared.TypeName.{TypeName}
 use Rattle.heads.specs.declared.SlctName
 use Rattle.heads.specs.declared.SlctName.{SlctName}
-use Rattle.heads.specs.declared.SixName
-use Rattle.heads.specs.declared.SixName.{SixName}
-use Rattle.heads.specs.declared.CmpName
-use Rattle.heads.specs.declared.CmpName.{CmpName}
-use Rattle.heads.specs.declared.BoolName
-use Rattle.heads.specs.declared.BoolName.{BoolName}
-use Rattle.heads.specs.declared.Op2Name
-use Rattle.heads.specs.declared.Op2Name.{Op2Name}
+use Rattle.names.specs.declared.SixName
+use Rattle.names.specs.declared.SixName.{SixName}
+use Rattle.names.specs.declared.CmpName
+use Rattle.names.specs.declared.CmpName.{CmpName}
+use Rattle.names.specs.declared.BoolName
+use Rattle.names.specs.declared.BoolName.{BoolName}
+use Rattle.names.specs.declared.Op2Name
+use Rattle.names.specs.declared.Op2Name.{Op2Name}
 use Rattle.heads.specs.declared.Read
 use Rattle.heads.specs.declared.Read.{Read}
 use Rattle.heads.specs.declared.Sides
@@ -65,9 +65,10 @@ use Rattle.heads.specs.declared.Tested
 use Rattle.heads.specs.declared.Tested.{Tested}
 use Rattle.heads.specs.declared.Found
 use Rattle.heads.specs.declared.Found.{Found}
-use Rattle.heads.specs.Tables.{opcodeOf, videoOf, setTypeOf, typeOf, slctTypeOf, sixOf, cmpOf, boolOf, op2Of, satCode, ftzCode, addCode, s32Code, f32Code}
+use Rattle.names.specs.Back.{opcodeOf, videoOf, setTypeOf, typeOf, sixOf, cmpOf, boolOf, op2Of}
+use Rattle.heads.specs.Tables.{slctTypeOf, satCode, ftzCode, addCode, s32Code, f32Code}
 use Rattle.heads.specs.Rows.{nameAt, past, wholeOf, scalarOf, lanesOf, comparisonOf, sidesBy, sidesAt, comparedBy, comparedOf, endingBy, endingAt, satEnd, arithmeticBy, arithmeticOf, vsetBy, vsetOf, lanesBy, lanesRow, testAt, testedBy, testedOf, setBy, setAt, setFrom, setOf, setpBy, setpAt, setpFrom, setpOf, selpBy, selpOf, slctBy, slctAt, slctOf, readOf, foundOf, rowBy, rowOf}
-use Rattle.heads.specs.NameLaws.{opcodeName, opcode-complete, opcode-sound, video-sound, set-type-sound, type-sound, six-sound, cmp-sound, bool-sound, op2-sound, sat-code, ftz-code, add-code, s32-code, f32-code}
+use Rattle.names.specs.Back.{opcodeName, opcode-complete, opcode-sound, video-sound, set-type-sound, type-sound, six-sound, cmp-sound, bool-sound, op2-sound}
 
 -- ==== the names that a head keeps
 
@@ -124,8 +125,8 @@ slct-type-sound ftz x c e = go ftz (eqb x f32Code) refl (eqb x s32Code) refl e
   where
     go : (ftz s : Bool) → eqb x f32Code ≡ s → (t : Bool) → eqb x s32Code ≡ t
         → cond s (SlctName.Is (SlctType.F32 ftz)) (cond (not ftz && t) (SlctName.Is SlctType.S32) SlctName.Not) ≡ SlctName.Is c → SlctIs x ftz c
-    go ftz true p t q e = let z : SlctType.F32 ftz ≡ c = cc in subst (SlctIs x ftz) z (f32 (record { code = eqb-true x f32Code p ∙ sym f32-code; short = refl }))
-    go false false p true q e = let z : SlctType.S32 ≡ c = cc in subst (SlctIs x false) z (s32 (record { code = eqb-true x s32Code q ∙ sym s32-code; short = refl }))
+    go ftz true p t q e = let z : SlctType.F32 ftz ≡ c = cc in subst (SlctIs x ftz) z (f32 (record { code = eqb-true x f32Code p ∙ sym (short-code (bytes "f32") refl); short = refl }))
+    go false false p true q e = let z : SlctType.S32 ≡ c = cc in subst (SlctIs x false) z (s32 (record { code = eqb-true x s32Code q ∙ sym (short-code (bytes "s32") refl); short = refl }))
     go true false p t q e = let z : _≡_ {A = ℕ} 0 1 = cc in absurd (omega arith)
     go false false p false q e = let z : _≡_ {A = ℕ} 0 1 = cc in absurd (omega arith)
 
@@ -214,7 +215,7 @@ module _ (ns : List Name) (good : GoodNames ns) where
       go (Compared.Are a b c) p true q e =
           let w = whole-sound 5 (VsetLanes c (lanesOf l a b true)) i e in
           subst (RowIs ns (Opcode.Lanes l)) (w .1) (record {
-            names = rw (compared-sound a b c p, word-at 4 addCode (bytes "add") add-code refl q, ended 5 (w .0));
+            names = rw (compared-sound a b c p, word-at 4 addCode (bytes "add") (short-code (bytes "add") refl) refl q, ended 5 (w .0));
             blank = refl;
           })
       go (Compared.Are a b c) p false q e =
@@ -234,7 +235,7 @@ module _ (ns : List Name) (good : GoodNames ns) where
           let w = whole-sound (endingAt (seenHead ns) 5 .end) (Arithmetic op d true (scalarOf a b (endingAt (seenHead ns) 5 .form))) i e in
           let f = ending-sound 5 (w .0) in
           subst (RowIs ns (Opcode.Scalar op)) (w .1) (record {
-            names = rw (name-at 1 (videoTypeName d) (video-sound (nameAt (seenHead ns) 1) d p), sides-sound 2 a b q, word-at 4 satCode (bytes "sat") sat-code refl o, f .0);
+            names = rw (name-at 1 (videoTypeName d) (video-sound (nameAt (seenHead ns) 1) d p), sides-sound 2 a b q, word-at 4 satCode (bytes "sat") (short-code (bytes "sat") refl) refl o, f .0);
             blank = rw (f .1);
           })
       go false o (VideoName.Is d) p (Sides.Are a b) q e =
@@ -253,7 +254,7 @@ module _ (ns : List Name) (good : GoodNames ns) where
   test-sound c b i = go (eqb (nameAt (seenHead ns) i) ftzCode) refl
     where
       go : (ftz : Bool) → eqb (nameAt (seenHead ns) i) ftzCode ≡ ftz → drop i ns ≡ when ftz (bytes "ftz") ++ drop (past ftz i) ns
-      go true e = word-at i ftzCode (bytes "ftz") ftz-code refl e
+      go true e = word-at i ftzCode (bytes "ftz") (short-code (bytes "ftz") refl) refl e
       go false e = refl
 
   tested-sound : (t : Test) → testedOf (seenHead ns) ≡ Tested.Is t → TestIs ns t
@@ -364,7 +365,7 @@ module _ (ns : List Name) (good : GoodNames ns) where
   slct-sound i e = go (eqb (nameAt (seenHead ns) 1) ftzCode) refl e
     where
       go : (ftz : Bool) → eqb (nameAt (seenHead ns) 1) ftzCode ≡ ftz → slctAt (seenHead ns) ftz (cond ftz 2 1) ≡ Read.Is i → RowIs ns Opcode.Slct i
-      go true p e = slct-at-sound true 2 i (word-at 1 ftzCode (bytes "ftz") ftz-code refl p) e
+      go true p e = slct-at-sound true 2 i (word-at 1 ftzCode (bytes "ftz") (short-code (bytes "ftz") refl) refl p) e
       go false p e = slct-at-sound false 1 i refl e
 
   -- ==== the table

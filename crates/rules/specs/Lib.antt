@@ -6,6 +6,7 @@ pub mod FloatOrder
 pub mod FloatLaws
 pub mod Shape
 pub mod Names
+pub mod Choices
 pub mod StandardLine
 pub mod Writing
 pub mod LineLengths

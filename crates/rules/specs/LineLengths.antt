@@ -4,32 +4,25 @@ use native.Mathlib.Omega.{arith}
 use mathlib.Core.Path.{_≡_, refl}
 use mathlib.Core.Bool.{Bool, true, false, cond, and-eq-true-iff}
 use mathlib.Core.List.{List, [], _∷_, _++_, map}
-use lib.Dec.{ltb, lit≤}
+use lib.Dec.{eqb, leb, ltb, lit≤}
 use lib.ListN.{length, length-append}
-use borrow.Author.Tests.{ltb-true, ltb-false}
+use borrow.Author.Tests.{eqb-true, leb-true, ltb-true, ltb-false}
 use Rattle.base.specs.Text.{bytes}
+use Rattle.base.specs.Values.{Values, every, each}
 use Rattle.record.specs.Operands.{fullMask, defaultA, defaultB}
 use Rattle.record.specs.Refusals.{isLegal, Legal, guardInRange, selectedInRange, formInRange, operandInRange, combinationInRange, destinationInRange, instructionInRange}
 use Rattle.record.specs.declared.VideoType
 use Rattle.record.specs.declared.VideoType.{VideoType}
-use Rattle.record.specs.declared.SetType
 use Rattle.record.specs.declared.SetType.{SetType}
 use Rattle.record.specs.declared.SlctType
 use Rattle.record.specs.declared.SlctType.{SlctType}
 use Rattle.record.specs.declared.DataType.{DataType}
-use Rattle.record.specs.declared.DataType.the-variants.{B32, B64, U32, U64, S32, S64, F32, F64}
 use Rattle.record.specs.declared.Cmp6.{Cmp6}
-use Rattle.record.specs.declared.Cmp6.the-variants.{Eq, Ne, Lt, Le, Gt, Ge}
-use Rattle.record.specs.declared.CmpU.the-variants.{Lo, Ls, Hi, Hs}
-use Rattle.record.specs.declared.CmpF.the-variants.{Equ, Neu, Ltu, Leu, Gtu, Geu, Num, Nan}
+use Rattle.record.specs.declared.Cmp6.the-variants.{Eq}
 use Rattle.record.specs.declared.CmpOp.{CmpOp}
-use Rattle.record.specs.declared.CmpOp.the-variants.{Six, Unsigned, Float}
 use Rattle.record.specs.declared.BoolOp.{BoolOp}
-use Rattle.record.specs.declared.BoolOp.the-variants.{And, Or, Xor}
 use Rattle.record.specs.declared.Op2.{Op2}
-use Rattle.record.specs.declared.Op2.the-variants.{Add, Min, Max}
 use Rattle.record.specs.declared.Arith.{Arith}
-use Rattle.record.specs.declared.Arith.the-variants.{Vadd, Vsub, Vabsdiff, Vmin, Vmax}
 use Rattle.record.specs.declared.Word.{Word}
 use Rattle.record.specs.declared.Condition.{Condition}
 use Rattle.record.specs.declared.Guard.{Guard}
@@ -37,7 +30,6 @@ use Rattle.record.specs.declared.Guard.the-variants.{Always, When}
 use Rattle.record.specs.declared.Combination.{Combination}
 use Rattle.record.specs.declared.Combination.the-variants.{Alone, With}
 use Rattle.record.specs.declared.Selector.{Selector}
-use Rattle.record.specs.declared.Selector.the-variants.{B0, B1, B2, B3, H0, H1}
 use Rattle.record.specs.declared.Selected.{Selected}
 use Rattle.record.specs.declared.Selected.the-variants.{Whole, Part}
 use Rattle.record.specs.declared.Form.{Form}
@@ -57,6 +49,7 @@ use Rattle.rules.specs.Numbers.{lanes, bit}
 use Rattle.rules.specs.Executing.{Place, operandPlace}
 use Rattle.rules.specs.Shape.{Name, dotted, headText, numberText, registerText, OperandTree, bare, operandText, guardText}
 use Rattle.rules.specs.Names.{videoTypeName, setTypeName, typeName, sixName, cmpName, boolName, op2Name, arithName, lanesName, when, formOp2, combinationNames, headNames, selectorName, digitsName}
+use Rattle.rules.specs.Choices.{videoTypes, setTypes, types, sixes, cmps, boolOps, op2s, ariths, widths, selectors}
 use Rattle.rules.specs.StandardLine.{r, p, selectedTree, formTree, formLast, sameMask, sameDigits, maskTree, digitsTree, conditionTree, combinationLast, destinationTree, operandTrees, guardPart, further, operandsText, standard}
 
 -- ==== pieces with k bytes before each, and with k bytes between two
@@ -91,49 +84,33 @@ operands-length (o ∷ l) = simp (length-append, further-length)
 
 -- ==== names
 
+-- every name of a choice has k bytes, or at most k
+long : {A : Type 0} (name : A → Name) (k : ℕ) (v : Values A) → every (λ (t : A). eqb (length (name t)) k) (v .list) ≡ true → (t : A) → length (name t) ≡ k
+long name k v e t = eqb-true (length (name t)) k (each (λ t. eqb (length (name t)) k) v e t)
+
+short : {A : Type 0} (name : A → Name) (k : ℕ) (v : Values A) → every (λ (t : A). leb (length (name t)) k) (v .list) ≡ true → (t : A) → length (name t) ≤ k
+short name k v e t = leb-true (length (name t)) k (each (λ t. leb (length (name t)) k) v e t)
+
 video-length : (t : VideoType) → length (videoTypeName t) ≡ 3
-video-length VideoType.U32 = refl
-video-length VideoType.S32 = refl
+video-length = long videoTypeName 3 videoTypes refl
 
 set-length : (t : SetType) → length (setTypeName t) ≡ 3
-set-length SetType.U32 = refl
-set-length SetType.S32 = refl
-set-length SetType.F32 = refl
+set-length = long setTypeName 3 setTypes refl
 
 type-length : (t : DataType) → length (typeName t) ≡ 3
-type-length B32 = refl
-type-length B64 = refl
-type-length U32 = refl
-type-length U64 = refl
-type-length S32 = refl
-type-length S64 = refl
-type-length F32 = refl
-type-length F64 = refl
+type-length = long typeName 3 types refl
 
 six-length : (c : Cmp6) → length (sixName c) ≡ 2
-six-length Eq = refl
-six-length Ne = refl
-six-length Lt = refl
-six-length Le = refl
-six-length Gt = refl
-six-length Ge = refl
+six-length = long sixName 2 sixes refl
 
 op2-length : (op : Op2) → length (op2Name op) ≡ 3
-op2-length Add = refl
-op2-length Min = refl
-op2-length Max = refl
+op2-length = long op2Name 3 op2s refl
 
 lanes-length : (w : LaneWidth) → length (lanesName w) ≡ 5
-lanes-length Half = refl
-lanes-length Byte = refl
+lanes-length = long lanesName 5 widths refl
 
 selector-length : (sel : Selector) → length (selectorName sel) ≡ 2
-selector-length B0 = refl
-selector-length B1 = refl
-selector-length B2 = refl
-selector-length B3 = refl
-selector-length H0 = refl
-selector-length H1 = refl
+selector-length = long selectorName 2 selectors refl
 
 digits-length : (w : LaneWidth) (s : Digits) → length (digitsName w s) ≡ 1 + lanes w
 digits-length Half s = refl
@@ -146,31 +123,13 @@ lane-length false b = refl
 ruleset lengths = (length-append, after-append, video-length, set-length, type-length, six-length, op2-length, lanes-length, selector-length, digits-length, lane-length)
 
 arith-short : (op : Arith) → length (arithName op) ≤ 8
-arith-short Vadd = lit≤ tt
-arith-short Vsub = lit≤ tt
-arith-short Vabsdiff = lit≤ tt
-arith-short Vmin = lit≤ tt
-arith-short Vmax = lit≤ tt
+arith-short = short arithName 8 ariths refl
 
 cmp-short : (op : CmpOp) → length (cmpName op) ≤ 3
-cmp-short (Six c) = omega (arith, six-length c)
-cmp-short (Unsigned Lo) = lit≤ tt
-cmp-short (Unsigned Ls) = lit≤ tt
-cmp-short (Unsigned Hi) = lit≤ tt
-cmp-short (Unsigned Hs) = lit≤ tt
-cmp-short (Float Equ) = lit≤ tt
-cmp-short (Float Neu) = lit≤ tt
-cmp-short (Float Ltu) = lit≤ tt
-cmp-short (Float Leu) = lit≤ tt
-cmp-short (Float Gtu) = lit≤ tt
-cmp-short (Float Geu) = lit≤ tt
-cmp-short (Float Num) = lit≤ tt
-cmp-short (Float Nan) = lit≤ tt
+cmp-short = short cmpName 3 cmps refl
 
 bool-short : (op : BoolOp) → length (boolName op) ≤ 3
-bool-short And = lit≤ tt
-bool-short Or = lit≤ tt
-bool-short Xor = lit≤ tt
+bool-short = short boolName 3 boolOps refl
 
 when-short : (t : Bool) (n : Name) → after 1 (when t n) ≤ 1 + length n
 when-short true n = omega arith

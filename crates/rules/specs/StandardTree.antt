@@ -8,31 +8,23 @@ use lib.Dec.{lit<}
 use lib.ListN.{length}
 use borrow.Author.Tests.{ltb-true, le-leb}
 use Rattle.base.specs.Text.{bytes}
-use Rattle.base.specs.Bytes.{isBlank, isNameByte, All, Some}
+use Rattle.base.specs.Bytes.{isBlank, isNameByte, Some}
+use Rattle.base.specs.Values.{every, each}
+use Rattle.base.specs.PackLaws.{all-of}
 use Rattle.base.specs.Bytes
 use Rattle.record.specs.Registers.{wordInFile, predInFile}
 use Rattle.record.specs.Operands.{fullMask, defaultA, defaultB, instructionOperandsFit}
 use Rattle.record.specs.Refusals.{isLegal, Legal, conditionInRange, guardInRange, selectedInRange, formInRange, scalarInRange, lanesInRange, operandInRange, combinationInRange, comparisonInRange, destinationInRange, choiceInRange, instructionInRange}
-use Rattle.record.specs.declared.VideoType
 use Rattle.record.specs.declared.VideoType.{VideoType}
-use Rattle.record.specs.declared.SetType
 use Rattle.record.specs.declared.SetType.{SetType}
 use Rattle.record.specs.declared.SlctType
 use Rattle.record.specs.declared.SlctType.{SlctType}
 use Rattle.record.specs.declared.DataType.{DataType}
-use Rattle.record.specs.declared.DataType.the-variants.{B32, B64, U32, U64, S32, S64, F32, F64}
 use Rattle.record.specs.declared.Cmp6.{Cmp6}
-use Rattle.record.specs.declared.Cmp6.the-variants.{Eq, Ne, Lt, Le, Gt, Ge}
-use Rattle.record.specs.declared.CmpU.the-variants.{Lo, Ls, Hi, Hs}
-use Rattle.record.specs.declared.CmpF.the-variants.{Equ, Neu, Ltu, Leu, Gtu, Geu, Num, Nan}
 use Rattle.record.specs.declared.CmpOp.{CmpOp}
-use Rattle.record.specs.declared.CmpOp.the-variants.{Six, Unsigned, Float}
 use Rattle.record.specs.declared.BoolOp.{BoolOp}
-use Rattle.record.specs.declared.BoolOp.the-variants.{And, Or, Xor}
 use Rattle.record.specs.declared.Op2.{Op2}
-use Rattle.record.specs.declared.Op2.the-variants.{Add, Min, Max}
 use Rattle.record.specs.declared.Arith.{Arith}
-use Rattle.record.specs.declared.Arith.the-variants.{Vadd, Vsub, Vabsdiff, Vmin, Vmax}
 use Rattle.record.specs.declared.Word.{Word}
 use Rattle.record.specs.declared.Pred.{Pred}
 use Rattle.record.specs.declared.Condition.{Condition}
@@ -41,7 +33,6 @@ use Rattle.record.specs.declared.Guard.the-variants.{Always, When}
 use Rattle.record.specs.declared.Combination.{Combination}
 use Rattle.record.specs.declared.Combination.the-variants.{Alone, With}
 use Rattle.record.specs.declared.Selector.{Selector}
-use Rattle.record.specs.declared.Selector.the-variants.{B0, B1, B2, B3, H0, H1}
 use Rattle.record.specs.declared.Selected.{Selected}
 use Rattle.record.specs.declared.Selected.the-variants.{Whole, Part}
 use Rattle.record.specs.declared.Form.{Form}
@@ -64,6 +55,7 @@ use Rattle.record.specs.declared.Record.{Record}
 use Rattle.rules.specs.Executing.{Place, word, operandPlace}
 use Rattle.rules.specs.Shape.{Name, digit, OperandTree, bare}
 use Rattle.rules.specs.Names.{videoTypeName, setTypeName, typeName, sixName, cmpName, boolName, op2Name, arithName, lanesName, when, formOp2, combinationNames, headNames, selectorName, maskName, digitsName}
+use Rattle.rules.specs.Choices.{videoTypes, setTypes, types, sixes, cmps, boolOps, op2s, ariths, widths, selectors}
 use Rattle.rules.specs.StandardLine.{r, p, selectedTree, formTree, formLast, sameMask, sameDigits, maskTree, digitsTree, conditionTree, combinationLast, destinationTree, scalarTrees, lanesTrees, sourceTrees, choiceTrees, operandTrees, guardPart, further, standard}
 use Rattle.rules.specs.LineLengths.{standard-fits}
 use Rattle.rules.specs.Grammar
@@ -148,10 +140,6 @@ standard-text m =
 
 -- ==== names
 
-abbrev every : {A : Type 0} → (A → Bool) → List A → Bool
-every q [] = true
-every q (x ∷ l) = q x && every q l
-
 every-append : {A : Type 0} (q : A → Bool) (l k : List A) → every q (l ++ k) ≡ every q l && every q k
 every-append q [] k = refl
 every-append q (x ∷ l) k = simp (every-append q l k, and-assoc)
@@ -160,88 +148,43 @@ abbrev isName : Name → Bool
 isName [] = false
 isName (b ∷ n) = every isNameByte (b ∷ n)
 
-bytes-all : (n : Name) → every isNameByte n ≡ true → All isNameByte n
-bytes-all [] h = Bytes.none
-bytes-all (b ∷ n) h = let k = simp and-eq-true-iff at h in Bytes.more (k .0) (bytes-all n (k .1))
-
 named : {n : Name} → isName n ≡ true → GoodName n
 named {n = []} h = absurd (false≢true h)
-named {n = b ∷ l} h = record { all = bytes-all (b ∷ l) h; some = omega arith }
+named {n = b ∷ l} h = record { all = all-of (b ∷ l) h; some = omega arith }
 
 all-named : (l : List Name) → every isName l ≡ true → GoodNames l
 all-named [] h = Grammar.none
 all-named (n ∷ l) h = let k = simp and-eq-true-iff at h in Grammar.more (named (k .0)) (all-named l (k .1))
 
 video-named : (t : VideoType) → isName (videoTypeName t) ≡ true
-video-named VideoType.U32 = refl
-video-named VideoType.S32 = refl
+video-named = each (λ t. isName (videoTypeName t)) videoTypes refl
 
 set-named : (t : SetType) → isName (setTypeName t) ≡ true
-set-named SetType.U32 = refl
-set-named SetType.S32 = refl
-set-named SetType.F32 = refl
+set-named = each (λ t. isName (setTypeName t)) setTypes refl
 
 type-named : (t : DataType) → isName (typeName t) ≡ true
-type-named B32 = refl
-type-named B64 = refl
-type-named U32 = refl
-type-named U64 = refl
-type-named S32 = refl
-type-named S64 = refl
-type-named F32 = refl
-type-named F64 = refl
+type-named = each (λ t. isName (typeName t)) types refl
 
 six-named : (c : Cmp6) → isName (sixName c) ≡ true
-six-named Eq = refl
-six-named Ne = refl
-six-named Lt = refl
-six-named Le = refl
-six-named Gt = refl
-six-named Ge = refl
+six-named = each (λ c. isName (sixName c)) sixes refl
 
 cmp-named : (op : CmpOp) → isName (cmpName op) ≡ true
-cmp-named (Six c) = six-named c
-cmp-named (Unsigned Lo) = refl
-cmp-named (Unsigned Ls) = refl
-cmp-named (Unsigned Hi) = refl
-cmp-named (Unsigned Hs) = refl
-cmp-named (Float Equ) = refl
-cmp-named (Float Neu) = refl
-cmp-named (Float Ltu) = refl
-cmp-named (Float Leu) = refl
-cmp-named (Float Gtu) = refl
-cmp-named (Float Geu) = refl
-cmp-named (Float Num) = refl
-cmp-named (Float Nan) = refl
+cmp-named = each (λ op. isName (cmpName op)) cmps refl
 
 bool-named : (op : BoolOp) → isName (boolName op) ≡ true
-bool-named And = refl
-bool-named Or = refl
-bool-named Xor = refl
+bool-named = each (λ op. isName (boolName op)) boolOps refl
 
 op2-named : (op : Op2) → isName (op2Name op) ≡ true
-op2-named Add = refl
-op2-named Min = refl
-op2-named Max = refl
+op2-named = each (λ op. isName (op2Name op)) op2s refl
 
 arith-named : (op : Arith) → isName (arithName op) ≡ true
-arith-named Vadd = refl
-arith-named Vsub = refl
-arith-named Vabsdiff = refl
-arith-named Vmin = refl
-arith-named Vmax = refl
+arith-named = each (λ op. isName (arithName op)) ariths refl
 
 lanes-named : (w : LaneWidth) → isName (lanesName w) ≡ true
-lanes-named Half = refl
-lanes-named Byte = refl
+lanes-named = each (λ w. isName (lanesName w)) widths refl
 
 selector-named : (sel : Selector) → isName (selectorName sel) ≡ true
-selector-named B0 = refl
-selector-named B1 = refl
-selector-named B2 = refl
-selector-named B3 = refl
-selector-named H0 = refl
-selector-named H1 = refl
+selector-named = each (λ sel. isName (selectorName sel)) selectors refl
 
 lane-named : (t : Bool) (b : ℕ) → isNameByte b ≡ true → every isNameByte (cond t (b ∷ []) []) ≡ true
 lane-named true b h = rw h

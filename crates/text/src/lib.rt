@@ -6,6 +6,7 @@ ghost use lib.ListN.{length};
 ghost use lib.Seq.{paste};
 ghost use Rattle.text.specs.Buffer.{buffer, Puts};
 ghost use Rattle.text.specs.Digits.{decimal, hexDigit, hex};
+ghost use Rattle.base.specs.Pack.{unpacked, spelled};
 
 // One byte; answers the next place.
 pub fn push(out: &mut [u8], at: usize, b: u8) -> usize
@@ -94,4 +95,30 @@ pub fn put_hex(out: &mut [u8], at: usize, x: u64, digits: u8) -> usize
     }
     let next = put_hex(out, at, x / 16, digits - 1);
     push(out, next, hex_digit((x % 16) as u8))
+}
+
+// A short text that is kept as a number: its bytes are the digits at base 128, the first the lowest.
+fn put_short(out: &mut [u8], at: usize, x: u64) -> usize
+    ensures { λ r. ⌜ Puts (buffer (now (out .entry)) at) (unpacked x) (buffer (now (out .exit)) r) ⌝ }
+{
+    let mut next = at;
+    let mut left = x;
+    while left != 0 {
+        next = push(out, next, (left % 128) as u8);
+        left = left / 128;
+    }
+    next
+}
+
+// Several, one after another; 0 stands for none.
+pub fn put_all(out: &mut [u8], at: usize, texts: &[u64]) -> usize
+    ensures { λ r. ⌜ Puts (buffer (now (out .entry)) at) (spelled (now (texts .entry))) (buffer (now (out .exit)) r) ⌝ }
+{
+    let mut next = at;
+    let mut k = 0;
+    while k < texts.len() {
+        next = put_short(out, next, texts[k]);
+        k += 1;
+    }
+    next
 }

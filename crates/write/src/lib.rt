@@ -1,15 +1,11 @@
-// Writes a record as its standard line: the line is built piece by piece in a local buffer, and copied out once.
+// Writes a record as its standard line. Its pieces are chosen as numbers, each the bytes of a short text (crate names); then the line is put
+// into a local buffer, and copied out once.
 use record::Arith;
-use record::BoolOp;
 use record::Choice;
 use record::Cmp6;
-use record::CmpF;
-use record::CmpOp;
-use record::CmpU;
 use record::Combination;
 use record::Comparison;
 use record::Condition;
-use record::DataType;
 use record::Destination;
 use record::Digits;
 use record::Double;
@@ -19,7 +15,6 @@ use record::Instruction;
 use record::LaneWidth;
 use record::Lanes;
 use record::Mask;
-use record::Op2;
 use record::Operand;
 use record::Pred;
 use record::Record;
@@ -32,17 +27,20 @@ use record::VideoType;
 use record::Word;
 ghost use mathlib.Core.Path.{_≡_};
 ghost use mathlib.Core.Bool.{cond};
-ghost use mathlib.Core.List.{[], _∷_, _++_};
-ghost use Rattle.base.specs.Text.{bytes};
+ghost use mathlib.Core.List.{_++_};
+ghost use Prim.Native.Nat.{_+_, _*_, _^_, _≤_, _<_};
+ghost use lib.ListN.{length};
+ghost use Rattle.base.specs.Pack.{spelled, Spells};
 ghost use Rattle.rules.specs.Executing.{operandPlace, double};
-ghost use Rattle.record.specs.declared.CmpOp.the-variants.{Unsigned, Float};
 ghost use Rattle.record.specs.declared.Instruction.the-variants.{Arithmetic, Vset, VsetLanes, Set, Setp, Selp, Slct};
-ghost use Rattle.rules.specs.Shape.{bare, digit, numberText, registerText, dotted, headText, operandText};
-ghost use Rattle.rules.specs.Names.{videoTypeName, setTypeName, typeName, sixName, cmpName, boolName, op2Name, arithName, lanesName, when, formOp2, combinationNames, headNames, selectorName, laneLetter, maskName, digitsName};
-ghost use Rattle.rules.specs.StandardLine.{r, p, selectedTree, formTree, formLast, sameMask, sameDigits, maskTree, digitsTree, conditionTree, combinationLast, destinationTree, scalarTrees, lanesTrees, sourceTrees, choiceTrees, operandTrees, guardPart, further, operandsText, standard};
+ghost use Rattle.rules.specs.Shape.{bare, part, digit, numberText, registerText, headText, operandText};
+ghost use Rattle.rules.specs.Names.{formOp2, combinationNames, headNames, selectorName, maskName, digitsName};
+ghost use Rattle.rules.specs.StandardLine.{r, p, selectedTree, formTree, formLast, sameMask, sameDigits, maskTree, digitsTree, conditionTree, combinationLast, destinationTree, scalarTrees, lanesTrees, sourceTrees, guardPart, further, operandsText, standard};
+ghost use Rattle.rules.specs.LineLengths.{longestLine};
 ghost use Rattle.rules.specs.Writing.{outcome, writing};
 ghost use Rattle.text.specs.Buffer.{buffer, Puts};
-ghost use Rattle.write.specs.Pieces.{choiceText};
+ghost use Rattle.write.specs.Pieces.{withDot, DotIf, Optional, furtherOf, Shows, textOf, eight, choiceText};
+ghost use Rattle.write.specs.Line.{Writes, lineOf, copied};
 ghost use Rattle.write.specs.Answers.{answerOf};
 
 // The length of the line, or document 01's number of the refusal.
@@ -59,44 +57,17 @@ const NOT_LEGAL: u8 = 8;
 
 const TOO_SHORT: u8 = 9;
 
-// ---- bytes, put into a lent buffer from a place on; what has no room is left out, so that no piece asks for any
+// ---- short texts as numbers: the bytes are the digits at base 128, the first the lowest
 
-fn put2(out: &mut [u8], at: usize, a: u8, b: u8) -> usize
-    ensures { λ m. ⌜ Puts (buffer (now (out .entry)) at) (a ∷ b ∷ []) (buffer (now (out .exit)) m) ⌝ }
+const RADIX: u64 = 128;
+
+// One byte before a text of at most eight.
+fn before(b: u8, x: u64) -> u64
+    requires { ⌜ x < 2 ^ 56 ⌝ }
+    ensures { λ m. ⌜ m ≡ b + 128 * x ⌝ }
 {
-    let at = text::push(out, at, a);
-    text::push(out, at, b)
+    (b as u64) + RADIX * x
 }
-
-fn put3(out: &mut [u8], at: usize, a: u8, b: u8, c: u8) -> usize
-    ensures { λ m. ⌜ Puts (buffer (now (out .entry)) at) (a ∷ b ∷ c ∷ []) (buffer (now (out .exit)) m) ⌝ }
-{
-    let at = put2(out, at, a, b);
-    text::push(out, at, c)
-}
-
-fn put4(out: &mut [u8], at: usize, a: u8, b: u8, c: u8, d: u8) -> usize
-    ensures { λ m. ⌜ Puts (buffer (now (out .entry)) at) (a ∷ b ∷ c ∷ d ∷ []) (buffer (now (out .exit)) m) ⌝ }
-{
-    let at = put2(out, at, a, b);
-    put2(out, at, c, d)
-}
-
-fn put5(out: &mut [u8], at: usize, a: u8, b: u8, c: u8, d: u8, e: u8) -> usize
-    ensures { λ m. ⌜ Puts (buffer (now (out .entry)) at) (a ∷ b ∷ c ∷ d ∷ e ∷ []) (buffer (now (out .exit)) m) ⌝ }
-{
-    let at = put4(out, at, a, b, c, d);
-    text::push(out, at, e)
-}
-
-// The byte, if it is wanted.
-fn push_if(out: &mut [u8], at: usize, t: bool, b: u8) -> usize
-    ensures { λ m. ⌜ Puts (buffer (now (out .entry)) at) (cond t (b ∷ []) []) (buffer (now (out .exit)) m) ⌝ }
-{
-    if t { text::push(out, at, b) } else { at }
-}
-
-// ---- registers
 
 fn digit(n: u16) -> u8
     ensures { λ m. ⌜ m ≡ digit n ⌝ }
@@ -104,405 +75,305 @@ fn digit(n: u16) -> u8
     (n % 10) as u8 + b'0'
 }
 
-fn put_number(out: &mut [u8], at: usize, n: u16) -> usize
-    ensures { λ m. ⌜ Puts (buffer (now (out .entry)) at) (numberText n) (buffer (now (out .exit)) m) ⌝ }
+fn number_text(n: u16) -> u64
+    ensures { λ m. ⌜ Spells 3 m (numberText n) ⌝ }
 {
+    let ones = digit(n) as u64;
     if n < 10 {
-        return text::push(out, at, digit(n));
+        return ones;
     }
+    let tens = before(digit(n / 10), ones);
     if n < 100 {
-        return put2(out, at, digit(n / 10), digit(n));
+        return tens;
     }
-    put3(out, at, digit(n / 100), digit(n / 10), digit(n))
+    before(digit(n / 100), tens)
 }
 
-fn put_word(out: &mut [u8], at: usize, w: Word) -> usize
-    ensures { λ m. ⌜ Puts (buffer (now (out .entry)) at) (registerText (r w)) (buffer (now (out .exit)) m) ⌝ }
+fn word_text(w: Word) -> u64
+    ensures { λ m. ⌜ Spells 5 m (registerText (r w)) ⌝ }
 {
-    let at = put2(out, at, b'%', b'r');
-    put_number(out, at, w.0)
+    before(b'%', before(b'r', number_text(w.0)))
 }
 
-fn put_double(out: &mut [u8], at: usize, d: Double) -> usize
-    ensures { λ m. ⌜ Puts (buffer (now (out .entry)) at) (registerText (double (d .0))) (buffer (now (out .exit)) m) ⌝ }
+fn double_text(d: Double) -> u64
+    ensures { λ m. ⌜ Spells 6 m (registerText (double (d .0))) ⌝ }
 {
-    let at = put3(out, at, b'%', b'r', b'd');
-    put_number(out, at, d.0)
+    before(b'%', before(b'r', before(b'd', number_text(d.0))))
 }
 
-fn put_pred(out: &mut [u8], at: usize, q: Pred) -> usize
-    ensures { λ m. ⌜ Puts (buffer (now (out .entry)) at) (registerText (p q)) (buffer (now (out .exit)) m) ⌝ }
+fn pred_text(q: Pred) -> u64
+    ensures { λ m. ⌜ Spells 5 m (registerText (p q)) ⌝ }
 {
-    let at = put2(out, at, b'%', b'p');
-    put_number(out, at, q.0)
+    before(b'%', before(b'p', number_text(q.0)))
 }
 
-fn put_operand(out: &mut [u8], at: usize, o: Operand) -> usize
-    ensures { λ m. ⌜ Puts (buffer (now (out .entry)) at) (registerText (operandPlace o)) (buffer (now (out .exit)) m) ⌝ }
+fn operand_text(o: Operand) -> u64
+    ensures { λ m. ⌜ Spells 6 m (registerText (operandPlace o)) ⌝ }
 {
     match o {
-        Operand::Word(w) => put_word(out, at, w),
-        Operand::Double(d) => put_double(out, at, d),
+        Operand::Word(w) => word_text(w),
+        Operand::Double(d) => double_text(d),
     }
 }
 
-// ---- modifiers, each with its `.`
-
-fn put_video_type(out: &mut [u8], at: usize, t: VideoType) -> usize
-    ensures { λ m. ⌜ Puts (buffer (now (out .entry)) at) (bytes "." ++ videoTypeName t) (buffer (now (out .exit)) m) ⌝ }
+fn condition_text(c: Condition) -> u64
+    ensures { λ m. ⌜ Spells 6 m (operandText (conditionTree c)) ⌝ }
 {
-    match t {
-        VideoType::U32 => put4(out, at, b'.', b'u', b'3', b'2'),
-        VideoType::S32 => put4(out, at, b'.', b's', b'3', b'2'),
+    if c.inverted {
+        return before(b'!', pred_text(c.pred));
+    }
+    pred_text(c.pred)
+}
+
+// ---- the guard: `@`, a condition and a space
+
+fn guard_texts(g: Guard) -> [u64; 2]
+    ensures { λ m. ⌜ spelled m ≡ guardPart g ⌝ }
+{
+    match g {
+        Guard::Always => [0, 0],
+        Guard::When(c) => [before(b'@', condition_text(c)), b' ' as u64],
     }
 }
 
-fn put_set_type(out: &mut [u8], at: usize, t: SetType) -> usize
-    ensures { λ m. ⌜ Puts (buffer (now (out .entry)) at) (bytes "." ++ setTypeName t) (buffer (now (out .exit)) m) ⌝ }
+// ---- the head: its names, each but the first with its `.`; 0 for a name that is left out
+
+fn dot(x: u64) -> u64
+    requires { ⌜ x < 2 ^ 56 ⌝ }
+    ensures { λ m. ⌜ m ≡ withDot x ⌝ }
 {
-    match t {
-        SetType::U32 => put4(out, at, b'.', b'u', b'3', b'2'),
-        SetType::S32 => put4(out, at, b'.', b's', b'3', b'2'),
-        SetType::F32 => put4(out, at, b'.', b'f', b'3', b'2'),
+    before(b'.', x)
+}
+
+fn dot_if(t: bool, x: u64) -> u64
+    requires { ⌜ x < 2 ^ 56 ⌝ }
+    ensures { λ m. ⌜ DotIf t x m ⌝ }
+{
+    if t {
+        return dot(x);
     }
+    0
 }
 
-fn put_type(out: &mut [u8], at: usize, t: DataType) -> usize
-    ensures { λ m. ⌜ Puts (buffer (now (out .entry)) at) (bytes "." ++ typeName t) (buffer (now (out .exit)) m) ⌝ }
-{
-    match t {
-        DataType::B32 => put4(out, at, b'.', b'b', b'3', b'2'),
-        DataType::B64 => put4(out, at, b'.', b'b', b'6', b'4'),
-        DataType::U32 => put4(out, at, b'.', b'u', b'3', b'2'),
-        DataType::U64 => put4(out, at, b'.', b'u', b'6', b'4'),
-        DataType::S32 => put4(out, at, b'.', b's', b'3', b'2'),
-        DataType::S64 => put4(out, at, b'.', b's', b'6', b'4'),
-        DataType::F32 => put4(out, at, b'.', b'f', b'3', b'2'),
-        DataType::F64 => put4(out, at, b'.', b'f', b'6', b'4'),
-    }
-}
-
-fn put_six(out: &mut [u8], at: usize, c: Cmp6) -> usize
-    ensures { λ m. ⌜ Puts (buffer (now (out .entry)) at) (bytes "." ++ sixName c) (buffer (now (out .exit)) m) ⌝ }
-{
-    match c {
-        Cmp6::Eq => put3(out, at, b'.', b'e', b'q'),
-        Cmp6::Ne => put3(out, at, b'.', b'n', b'e'),
-        Cmp6::Lt => put3(out, at, b'.', b'l', b't'),
-        Cmp6::Le => put3(out, at, b'.', b'l', b'e'),
-        Cmp6::Gt => put3(out, at, b'.', b'g', b't'),
-        Cmp6::Ge => put3(out, at, b'.', b'g', b'e'),
-    }
-}
-
-fn put_unsigned(out: &mut [u8], at: usize, c: CmpU) -> usize
-    ensures { λ m. ⌜ Puts (buffer (now (out .entry)) at) (bytes "." ++ cmpName (Unsigned c)) (buffer (now (out .exit)) m) ⌝ }
-{
-    match c {
-        CmpU::Lo => put3(out, at, b'.', b'l', b'o'),
-        CmpU::Ls => put3(out, at, b'.', b'l', b's'),
-        CmpU::Hi => put3(out, at, b'.', b'h', b'i'),
-        CmpU::Hs => put3(out, at, b'.', b'h', b's'),
-    }
-}
-
-fn put_float(out: &mut [u8], at: usize, c: CmpF) -> usize
-    ensures { λ m. ⌜ Puts (buffer (now (out .entry)) at) (bytes "." ++ cmpName (Float c)) (buffer (now (out .exit)) m) ⌝ }
-{
-    match c {
-        CmpF::Equ => put4(out, at, b'.', b'e', b'q', b'u'),
-        CmpF::Neu => put4(out, at, b'.', b'n', b'e', b'u'),
-        CmpF::Ltu => put4(out, at, b'.', b'l', b't', b'u'),
-        CmpF::Leu => put4(out, at, b'.', b'l', b'e', b'u'),
-        CmpF::Gtu => put4(out, at, b'.', b'g', b't', b'u'),
-        CmpF::Geu => put4(out, at, b'.', b'g', b'e', b'u'),
-        CmpF::Num => put4(out, at, b'.', b'n', b'u', b'm'),
-        CmpF::Nan => put4(out, at, b'.', b'n', b'a', b'n'),
-    }
-}
-
-fn put_cmp(out: &mut [u8], at: usize, c: CmpOp) -> usize
-    ensures { λ m. ⌜ Puts (buffer (now (out .entry)) at) (bytes "." ++ cmpName c) (buffer (now (out .exit)) m) ⌝ }
-{
-    match c {
-        CmpOp::Six(c) => put_six(out, at, c),
-        CmpOp::Unsigned(c) => put_unsigned(out, at, c),
-        CmpOp::Float(c) => put_float(out, at, c),
-    }
-}
-
-fn put_bool_op(out: &mut [u8], at: usize, op: BoolOp) -> usize
-    ensures { λ m. ⌜ Puts (buffer (now (out .entry)) at) (bytes "." ++ boolName op) (buffer (now (out .exit)) m) ⌝ }
-{
-    match op {
-        BoolOp::And => put4(out, at, b'.', b'a', b'n', b'd'),
-        BoolOp::Or => put3(out, at, b'.', b'o', b'r'),
-        BoolOp::Xor => put4(out, at, b'.', b'x', b'o', b'r'),
-    }
-}
-
-fn put_op2(out: &mut [u8], at: usize, op: Op2) -> usize
-    ensures { λ m. ⌜ Puts (buffer (now (out .entry)) at) (bytes "." ++ op2Name op) (buffer (now (out .exit)) m) ⌝ }
-{
-    match op {
-        Op2::Add => put4(out, at, b'.', b'a', b'd', b'd'),
-        Op2::Min => put4(out, at, b'.', b'm', b'i', b'n'),
-        Op2::Max => put4(out, at, b'.', b'm', b'a', b'x'),
-    }
-}
-
-// `.sat`, `.ftz` or `.add`, where the record has it.
-fn put_when(out: &mut [u8], at: usize, t: bool, a: u8, b: u8, c: u8) -> usize
-    ensures { λ m. ⌜ Puts (buffer (now (out .entry)) at) (dotted (when t (a ∷ b ∷ c ∷ []))) (buffer (now (out .exit)) m) ⌝ }
-{
-    if t { put4(out, at, b'.', a, b, c) } else { at }
-}
-
-fn put_form_op2(out: &mut [u8], at: usize, f: Form) -> usize
-    ensures { λ m. ⌜ Puts (buffer (now (out .entry)) at) (dotted (formOp2 f)) (buffer (now (out .exit)) m) ⌝ }
+fn form_modifier(f: Form) -> u64
+    ensures { λ m. ⌜ Optional m (formOp2 f) ⌝ }
 {
     match f {
-        Form::Plain { .. } => at,
-        Form::Merge { .. } => at,
-        Form::Combine { op, .. } => put_op2(out, at, op),
+        Form::Plain { .. } => 0,
+        Form::Merge { .. } => 0,
+        Form::Combine { op, .. } => dot(names::op2_number(op)),
     }
 }
 
-fn put_combination_name(out: &mut [u8], at: usize, c: Combination) -> usize
-    ensures { λ m. ⌜ Puts (buffer (now (out .entry)) at) (dotted (combinationNames c)) (buffer (now (out .exit)) m) ⌝ }
+fn combination_modifier(c: Combination) -> u64
+    ensures { λ m. ⌜ Optional m (combinationNames c) ⌝ }
 {
     match c {
-        Combination::Alone => at,
-        Combination::With(op, _) => put_bool_op(out, at, op),
+        Combination::Alone => 0,
+        Combination::With(op, _) => dot(names::bool_number(op)),
     }
 }
 
-// ---- heads
-
-fn put_arith(out: &mut [u8], at: usize, op: Arith) -> usize
-    ensures { λ m. ⌜ Puts (buffer (now (out .entry)) at) (arithName op) (buffer (now (out .exit)) m) ⌝ }
-{
-    match op {
-        Arith::Vadd => put4(out, at, b'v', b'a', b'd', b'd'),
-        Arith::Vsub => put4(out, at, b'v', b's', b'u', b'b'),
-        Arith::Vabsdiff => {
-            let at = put4(out, at, b'v', b'a', b'b', b's');
-            put4(out, at, b'd', b'i', b'f', b'f')
-        },
-        Arith::Vmin => put4(out, at, b'v', b'm', b'i', b'n'),
-        Arith::Vmax => put4(out, at, b'v', b'm', b'a', b'x'),
-    }
-}
-
-fn put_arithmetic_head(
-    out: &mut [u8],
-    at: usize,
-    op: Arith,
-    dtype: VideoType,
-    sat: bool,
-    s: Scalar,
-) -> usize
-    ensures { λ m. ⌜ Puts (buffer (now (out .entry)) at) (headText (headNames (Arithmetic op dtype sat s))) (buffer (now (out .exit)) m) ⌝ }
+fn arithmetic_head(op: Arith, dtype: VideoType, sat: bool, s: Scalar) -> [u64; 6]
+    ensures { λ m. ⌜ spelled m ≡ headText (headNames (Arithmetic op dtype sat s)) ⌝ }
 {
     let atype = s.atype;
     let btype = s.btype;
     let form = s.form;
-    let at = put_arith(out, at, op);
-    let at = put_video_type(out, at, dtype);
-    let at = put_video_type(out, at, atype);
-    let at = put_video_type(out, at, btype);
-    let at = put_when(out, at, sat, b's', b'a', b't');
-    put_form_op2(out, at, form)
+    [
+        names::arith_number(op),
+        dot(names::video_number(dtype)),
+        dot(names::video_number(atype)),
+        dot(names::video_number(btype)),
+        dot_if(sat, names::SAT),
+        form_modifier(form),
+    ]
 }
 
-fn put_vset_head(out: &mut [u8], at: usize, cmp: Cmp6, s: Scalar) -> usize
-    ensures { λ m. ⌜ Puts (buffer (now (out .entry)) at) (headText (headNames (Vset cmp s))) (buffer (now (out .exit)) m) ⌝ }
+fn vset_head(cmp: Cmp6, s: Scalar) -> [u64; 6]
+    ensures { λ m. ⌜ spelled m ≡ headText (headNames (Vset cmp s)) ⌝ }
 {
     let atype = s.atype;
     let btype = s.btype;
     let form = s.form;
-    let at = put4(out, at, b'v', b's', b'e', b't');
-    let at = put_video_type(out, at, atype);
-    let at = put_video_type(out, at, btype);
-    let at = put_six(out, at, cmp);
-    put_form_op2(out, at, form)
+    [
+        names::VSET,
+        dot(names::video_number(atype)),
+        dot(names::video_number(btype)),
+        dot(names::six_number(cmp)),
+        form_modifier(form),
+        0,
+    ]
 }
 
-fn put_lanes_opcode(out: &mut [u8], at: usize, w: LaneWidth) -> usize
-    ensures { λ m. ⌜ Puts (buffer (now (out .entry)) at) (lanesName w) (buffer (now (out .exit)) m) ⌝ }
-{
-    match w {
-        LaneWidth::Half => put5(out, at, b'v', b's', b'e', b't', b'2'),
-        LaneWidth::Byte => put5(out, at, b'v', b's', b'e', b't', b'4'),
-    }
-}
-
-fn put_lanes_head(out: &mut [u8], at: usize, cmp: Cmp6, s: Lanes) -> usize
-    ensures { λ m. ⌜ Puts (buffer (now (out .entry)) at) (headText (headNames (VsetLanes cmp s))) (buffer (now (out .exit)) m) ⌝ }
+fn lanes_head(cmp: Cmp6, s: Lanes) -> [u64; 6]
+    ensures { λ m. ⌜ spelled m ≡ headText (headNames (VsetLanes cmp s)) ⌝ }
 {
     let width = s.width;
     let atype = s.atype;
     let btype = s.btype;
-    let at = put_lanes_opcode(out, at, width);
-    let at = put_video_type(out, at, atype);
-    let at = put_video_type(out, at, btype);
-    let at = put_six(out, at, cmp);
-    put_when(out, at, s.add, b'a', b'd', b'd')
+    [
+        names::lanes_number(width),
+        dot(names::video_number(atype)),
+        dot(names::video_number(btype)),
+        dot(names::six_number(cmp)),
+        dot_if(s.add, names::ADD),
+        0,
+    ]
 }
 
-fn put_set_head(out: &mut [u8], at: usize, dtype: SetType, d: Word, s: Comparison) -> usize
-    ensures { λ m. ⌜ Puts (buffer (now (out .entry)) at) (headText (headNames (Set dtype d s))) (buffer (now (out .exit)) m) ⌝ }
+fn set_head(dtype: SetType, d: Word, s: Comparison) -> [u64; 6]
+    ensures { λ m. ⌜ spelled m ≡ headText (headNames (Set dtype d s)) ⌝ }
 {
     let cmp = s.cmp;
     let combination = s.combination;
     let stype = s.stype;
-    let at = put3(out, at, b's', b'e', b't');
-    let at = put_cmp(out, at, cmp);
-    let at = put_combination_name(out, at, combination);
-    let at = put_when(out, at, s.ftz, b'f', b't', b'z');
-    let at = put_set_type(out, at, dtype);
-    put_type(out, at, stype)
+    [
+        names::SET,
+        dot(names::cmp_number(cmp)),
+        combination_modifier(combination),
+        dot_if(s.ftz, names::FTZ),
+        dot(names::set_type_number(dtype)),
+        dot(names::type_number(stype)),
+    ]
 }
 
-fn put_setp_head(out: &mut [u8], at: usize, d: Destination, s: Comparison) -> usize
-    ensures { λ m. ⌜ Puts (buffer (now (out .entry)) at) (headText (headNames (Setp d s))) (buffer (now (out .exit)) m) ⌝ }
+fn setp_head(d: Destination, s: Comparison) -> [u64; 6]
+    ensures { λ m. ⌜ spelled m ≡ headText (headNames (Setp d s)) ⌝ }
 {
     let cmp = s.cmp;
     let combination = s.combination;
     let stype = s.stype;
-    let at = put4(out, at, b's', b'e', b't', b'p');
-    let at = put_cmp(out, at, cmp);
-    let at = put_combination_name(out, at, combination);
-    let at = put_when(out, at, s.ftz, b'f', b't', b'z');
-    put_type(out, at, stype)
+    [
+        names::SETP,
+        dot(names::cmp_number(cmp)),
+        combination_modifier(combination),
+        dot_if(s.ftz, names::FTZ),
+        dot(names::type_number(stype)),
+        0,
+    ]
 }
 
-fn put_selp_head(out: &mut [u8], at: usize, s: Choice, c: Pred) -> usize
-    ensures { λ m. ⌜ Puts (buffer (now (out .entry)) at) (headText (headNames (Selp s c))) (buffer (now (out .exit)) m) ⌝ }
+fn selp_head(s: Choice, c: Pred) -> [u64; 6]
+    ensures { λ m. ⌜ spelled m ≡ headText (headNames (Selp s c)) ⌝ }
 {
     let dtype = s.dtype;
-    let at = put4(out, at, b's', b'e', b'l', b'p');
-    put_type(out, at, dtype)
+    [names::SELP, dot(names::type_number(dtype)), 0, 0, 0, 0]
 }
 
-fn put_slct_head(out: &mut [u8], at: usize, ctype: SlctType, s: Choice, c: Word) -> usize
-    ensures { λ m. ⌜ Puts (buffer (now (out .entry)) at) (headText (headNames (Slct ctype s c))) (buffer (now (out .exit)) m) ⌝ }
+fn slct_head(ctype: SlctType, s: Choice, c: Word) -> [u64; 6]
+    ensures { λ m. ⌜ spelled m ≡ headText (headNames (Slct ctype s c)) ⌝ }
 {
     let dtype = s.dtype;
-    let at = put4(out, at, b's', b'l', b'c', b't');
+    let x = dot(names::type_number(dtype));
     match ctype {
-        SlctType::S32 => {
-            let at = put_type(out, at, dtype);
-            put4(out, at, b'.', b's', b'3', b'2')
-        },
-        SlctType::F32 { ftz } => {
-            let at = put_when(out, at, ftz, b'f', b't', b'z');
-            let at = put_type(out, at, dtype);
-            put4(out, at, b'.', b'f', b'3', b'2')
-        },
+        SlctType::S32 => [names::SLCT, x, dot(names::S32), 0, 0, 0],
+        SlctType::F32 { ftz } => [
+            names::SLCT,
+            dot_if(ftz, names::FTZ),
+            x,
+            dot(names::F32),
+            0,
+            0,
+        ],
     }
 }
 
-fn put_head(out: &mut [u8], at: usize, i: Instruction) -> usize
-    ensures { λ m. ⌜ Puts (buffer (now (out .entry)) at) (headText (headNames i)) (buffer (now (out .exit)) m) ⌝ }
+// ---- operands, each as two texts: up to its register, and what stands behind it
+
+struct Piece {
+    front: u64,
+    back: u64,
+}
+
+// A comma and one space before it.
+fn further(x: Piece) -> Piece
+    requires { ⌜ x .front < 2 ^ 42 ⌝ }
+    ensures { λ m. ⌜ m ≡ furtherOf x ⌝ }
 {
-    match i {
-        Instruction::Arithmetic {
-            op,
-            dtype,
-            sat,
-            scalar,
-        } => put_arithmetic_head(out, at, op, dtype, sat, scalar),
-        Instruction::Vset { cmp, scalar } => put_vset_head(out, at, cmp, scalar),
-        Instruction::VsetLanes { cmp, lanes } => put_lanes_head(out, at, cmp, lanes),
-        Instruction::Set {
-            dtype,
-            d,
-            comparison,
-        } => put_set_head(out, at, dtype, d, comparison),
-        Instruction::Setp { d, comparison } => put_setp_head(out, at, d, comparison),
-        Instruction::Selp { choice, c } => put_selp_head(out, at, choice, c),
-        Instruction::Slct { ctype, choice, c } => put_slct_head(out, at, ctype, choice, c),
+    Piece {
+        front: before(b',', before(b' ', x.front)),
+        back: x.back,
     }
+}
+
+// Operands in their order, the later ones with their commas.
+fn joined(d: Piece, a: Piece, b: Piece, c: Piece) -> [u64; 8]
+    ensures { λ m. ⌜ m ≡ eight d a b c ⌝ }
+{
+    [
+        d.front,
+        d.back,
+        a.front,
+        a.back,
+        b.front,
+        b.back,
+        c.front,
+        c.back,
+    ]
 }
 
 // ---- operands of scalar video
 
-fn put_selector(out: &mut [u8], at: usize, s: Selector) -> usize
-    ensures { λ m. ⌜ Puts (buffer (now (out .entry)) at) (selectorName s) (buffer (now (out .exit)) m) ⌝ }
+fn part_piece(w: Word, sel: Selector) -> Piece
+    ensures { λ m. ⌜ Shows m (part (r w) (selectorName sel)) ⌝ }
+{
+    Piece {
+        front: word_text(w),
+        back: dot(names::selector_number(sel)),
+    }
+}
+
+fn word_piece(w: Word) -> Piece
+    ensures { λ m. ⌜ Shows m (bare (r w)) ⌝ }
+{
+    Piece {
+        front: word_text(w),
+        back: 0,
+    }
+}
+
+fn selected_piece(s: Selected) -> Piece
+    ensures { λ m. ⌜ Shows m (selectedTree s) ⌝ }
 {
     match s {
-        Selector::B0 => put2(out, at, b'b', b'0'),
-        Selector::B1 => put2(out, at, b'b', b'1'),
-        Selector::B2 => put2(out, at, b'b', b'2'),
-        Selector::B3 => put2(out, at, b'b', b'3'),
-        Selector::H0 => put2(out, at, b'h', b'0'),
-        Selector::H1 => put2(out, at, b'h', b'1'),
+        Selected::Whole(w) => word_piece(w),
+        Selected::Part(w, sel) => part_piece(w, sel),
     }
 }
 
-fn put_part(out: &mut [u8], at: usize, w: Word, s: Selector) -> usize
-    ensures { λ m. ⌜ Puts (buffer (now (out .entry)) at) (registerText (r w) ++ bytes "." ++ selectorName s) (buffer (now (out .exit)) m) ⌝ }
-{
-    let at = put_word(out, at, w);
-    let at = text::push(out, at, b'.');
-    put_selector(out, at, s)
-}
-
-fn put_selected(out: &mut [u8], at: usize, s: Selected) -> usize
-    ensures { λ m. ⌜ Puts (buffer (now (out .entry)) at) (operandText (selectedTree s)) (buffer (now (out .exit)) m) ⌝ }
-{
-    match s {
-        Selected::Whole(w) => put_word(out, at, w),
-        Selected::Part(w, sel) => put_part(out, at, w, sel),
-    }
-}
-
-fn put_form_d(out: &mut [u8], at: usize, f: Form) -> usize
-    ensures { λ m. ⌜ Puts (buffer (now (out .entry)) at) (operandText (formTree f)) (buffer (now (out .exit)) m) ⌝ }
+fn form_piece(f: Form) -> Piece
+    ensures { λ m. ⌜ Shows m (formTree f) ⌝ }
 {
     match f {
-        Form::Plain { d } => put_word(out, at, d),
-        Form::Merge { d, sel, .. } => put_part(out, at, d, sel),
-        Form::Combine { d, .. } => put_word(out, at, d),
+        Form::Plain { d } => word_piece(d),
+        Form::Merge { d, sel, .. } => part_piece(d, sel),
+        Form::Combine { d, .. } => word_piece(d),
     }
 }
 
-// A comma and one space.
-fn put_comma(out: &mut [u8], at: usize) -> usize
-    ensures { λ m. ⌜ Puts (buffer (now (out .entry)) at) (bytes ", ") (buffer (now (out .exit)) m) ⌝ }
-{
-    put2(out, at, b',', b' ')
-}
-
-fn put_form_last(out: &mut [u8], at: usize, f: Form) -> usize
-    ensures { λ m. ⌜ Puts (buffer (now (out .entry)) at) (further (formLast f)) (buffer (now (out .exit)) m) ⌝ }
+fn form_last(f: Form) -> Piece
+    ensures { λ m. ⌜ textOf m ≡ further (formLast f) ⌝ }
 {
     match f {
-        Form::Plain { .. } => at,
-        Form::Merge { c, .. } => {
-            let at = put_comma(out, at);
-            put_word(out, at, c)
-        },
-        Form::Combine { c, .. } => {
-            let at = put_comma(out, at);
-            put_word(out, at, c)
-        },
+        Form::Plain { .. } => Piece { front: 0, back: 0 },
+        Form::Merge { c, .. } => further(word_piece(c)),
+        Form::Combine { c, .. } => further(word_piece(c)),
     }
 }
 
-fn put_scalar(out: &mut [u8], at: usize, s: Scalar) -> usize
-    ensures { λ m. ⌜ Puts (buffer (now (out .entry)) at) (operandsText (scalarTrees s)) (buffer (now (out .exit)) m) ⌝ }
+fn scalar_texts(s: Scalar) -> [u64; 8]
+    ensures { λ m. ⌜ spelled m ≡ operandsText (scalarTrees s) ⌝ }
 {
     let form = s.form;
     let a = s.a;
     let b = s.b;
-    let at = put_form_d(out, at, form);
-    let at = put_comma(out, at);
-    let at = put_selected(out, at, a);
-    let at = put_comma(out, at);
-    let at = put_selected(out, at, b);
-    put_form_last(out, at, form)
+    joined(
+        form_piece(form),
+        further(selected_piece(a)),
+        further(selected_piece(b)),
+        form_last(form),
+    )
 }
 
 // ---- operands of vset2 and vset4: default masks and selectors are left out
@@ -519,234 +390,271 @@ fn same_digits(s: Digits, t: Digits) -> bool
     (s.lane0 == t.lane0) & (s.lane1 == t.lane1) & (s.lane2 == t.lane2) & (s.lane3 == t.lane3)
 }
 
-fn put_lane_letter(out: &mut [u8], at: usize, w: LaneWidth) -> usize
-    ensures { λ m. ⌜ Puts (buffer (now (out .entry)) at) (laneLetter w) (buffer (now (out .exit)) m) ⌝ }
+fn digit_if(t: bool, b: u8, x: u64) -> u64
+    requires { ⌜ x < 2 ^ 56 ⌝ }
+    ensures { λ m. ⌜ (m ≡ cond t (b + 128 * x) x) × (m ≤ b + 128 * x) ⌝ }
 {
+    if t {
+        return before(b, x);
+    }
+    x
+}
+
+fn mask_text(w: LaneWidth, k: Mask) -> u64
+    ensures { λ m. ⌜ Spells 5 m (maskName w k) ⌝ }
+{
+    let x = digit_if(k.lane0, b'0', 0);
+    let x = digit_if(k.lane1, b'1', x);
+    let x = digit_if(k.lane2, b'2', x);
+    let x = digit_if(k.lane3, b'3', x);
     match w {
-        LaneWidth::Half => text::push(out, at, b'h'),
-        LaneWidth::Byte => text::push(out, at, b'b'),
+        LaneWidth::Half => before(b'h', x),
+        LaneWidth::Byte => before(b'b', x),
     }
 }
 
-fn put_mask_name(out: &mut [u8], at: usize, w: LaneWidth, k: Mask) -> usize
-    ensures { λ m. ⌜ Puts (buffer (now (out .entry)) at) (maskName w k) (buffer (now (out .exit)) m) ⌝ }
+fn mask_piece(w: LaneWidth, d: Word, k: Mask) -> Piece
+    ensures { λ m. ⌜ Shows m (maskTree w d k) ⌝ }
 {
-    let at = put_lane_letter(out, at, w);
-    let at = push_if(out, at, k.lane3, b'3');
-    let at = push_if(out, at, k.lane2, b'2');
-    let at = push_if(out, at, k.lane1, b'1');
-    push_if(out, at, k.lane0, b'0')
-}
-
-fn put_mask(out: &mut [u8], at: usize, w: LaneWidth, d: Word, k: Mask) -> usize
-    ensures { λ m. ⌜ Puts (buffer (now (out .entry)) at) (operandText (maskTree w d k)) (buffer (now (out .exit)) m) ⌝ }
-{
-    let at = put_word(out, at, d);
     if same_mask(k, record::full_mask(w)) {
-        return at;
+        return word_piece(d);
     }
-    let at = text::push(out, at, b'.');
-    put_mask_name(out, at, w, k)
+    Piece {
+        front: word_text(d),
+        back: dot(mask_text(w, k)),
+    }
 }
 
-fn put_digits_name(out: &mut [u8], at: usize, w: LaneWidth, s: Digits) -> usize
-    ensures { λ m. ⌜ Puts (buffer (now (out .entry)) at) (digitsName w s) (buffer (now (out .exit)) m) ⌝ }
+fn digits_text(w: LaneWidth, s: Digits) -> u64
+    ensures { λ m. ⌜ Spells 5 m (digitsName w s) ⌝ }
 {
     let d0 = digit(s.lane0 as u16);
     let d1 = digit(s.lane1 as u16);
     let d2 = digit(s.lane2 as u16);
     let d3 = digit(s.lane3 as u16);
+    let low = before(d1, d0 as u64);
     match w {
-        LaneWidth::Half => put3(out, at, b'h', d1, d0),
-        LaneWidth::Byte => put5(out, at, b'b', d3, d2, d1, d0),
+        LaneWidth::Half => before(b'h', low),
+        LaneWidth::Byte => before(b'b', before(d3, before(d2, low))),
     }
 }
 
-fn put_digits(out: &mut [u8], at: usize, w: LaneWidth, default: Digits, a: Word, s: Digits) -> usize
-    ensures { λ m. ⌜ Puts (buffer (now (out .entry)) at) (operandText (digitsTree w default a s)) (buffer (now (out .exit)) m) ⌝ }
+fn digits_piece(w: LaneWidth, default: Digits, a: Word, s: Digits) -> Piece
+    ensures { λ m. ⌜ Shows m (digitsTree w default a s) ⌝ }
 {
-    let at = put_word(out, at, a);
     if same_digits(s, default) {
-        return at;
+        return word_piece(a);
     }
-    let at = text::push(out, at, b'.');
-    put_digits_name(out, at, w, s)
+    Piece {
+        front: word_text(a),
+        back: dot(digits_text(w, s)),
+    }
 }
 
-fn put_lanes(out: &mut [u8], at: usize, s: Lanes) -> usize
-    ensures { λ m. ⌜ Puts (buffer (now (out .entry)) at) (operandsText (lanesTrees s)) (buffer (now (out .exit)) m) ⌝ }
+fn lanes_texts(s: Lanes) -> [u64; 8]
+    ensures { λ m. ⌜ spelled m ≡ operandsText (lanesTrees s) ⌝ }
 {
     let width = s.width;
-    let at = put_mask(out, at, width, s.d, s.mask);
-    let at = put_comma(out, at);
-    let at = put_digits(
-        out,
-        at,
-        width,
-        record::default_digits(width, false),
-        s.a,
-        s.asel,
-    );
-    let at = put_comma(out, at);
-    let at = put_digits(
-        out,
-        at,
-        width,
-        record::default_digits(width, true),
-        s.b,
-        s.bsel,
-    );
-    let at = put_comma(out, at);
-    put_word(out, at, s.c)
+    let asel = record::default_digits(width, false);
+    let bsel = record::default_digits(width, true);
+    joined(
+        mask_piece(width, s.d, s.mask),
+        further(digits_piece(width, asel, s.a, s.asel)),
+        further(digits_piece(width, bsel, s.b, s.bsel)),
+        further(word_piece(s.c)),
+    )
 }
 
 // ---- operands of set, setp, selp and slct
 
-fn put_condition(out: &mut [u8], at: usize, c: Condition) -> usize
-    ensures { λ m. ⌜ Puts (buffer (now (out .entry)) at) (operandText (conditionTree c)) (buffer (now (out .exit)) m) ⌝ }
+fn operand_piece(o: Operand) -> Piece
+    ensures { λ m. ⌜ Shows m (bare (operandPlace o)) ⌝ }
 {
-    if c.inverted {
-        let at = text::push(out, at, b'!');
-        put_pred(out, at, c.pred)
-    } else {
-        put_pred(out, at, c.pred)
+    Piece {
+        front: operand_text(o),
+        back: 0,
     }
 }
 
-fn put_combination_last(out: &mut [u8], at: usize, c: Combination) -> usize
-    ensures { λ m. ⌜ Puts (buffer (now (out .entry)) at) (further (combinationLast c)) (buffer (now (out .exit)) m) ⌝ }
+fn condition_piece(c: Condition) -> Piece
+    ensures { λ m. ⌜ Shows m (conditionTree c) ⌝ }
+{
+    Piece {
+        front: condition_text(c),
+        back: 0,
+    }
+}
+
+fn combination_last(c: Combination) -> Piece
+    ensures { λ m. ⌜ textOf m ≡ further (combinationLast c) ⌝ }
 {
     match c {
-        Combination::Alone => at,
-        Combination::With(_, c) => {
-            let at = put_comma(out, at);
-            put_condition(out, at, c)
-        },
+        Combination::Alone => Piece { front: 0, back: 0 },
+        Combination::With(_, c) => further(condition_piece(c)),
     }
 }
 
-fn put_sources(out: &mut [u8], at: usize, s: Comparison) -> usize
-    ensures { λ m. ⌜ Puts (buffer (now (out .entry)) at) (further (sourceTrees s)) (buffer (now (out .exit)) m) ⌝ }
+// d, and the sources behind it.
+fn sources_texts(d: Piece, s: Comparison) -> [u64; 8]
+    ensures { λ m. ⌜ spelled m ≡ textOf d ++ further (sourceTrees s) ⌝ }
 {
     let a = s.a;
     let b = s.b;
     let combination = s.combination;
-    let at = put_comma(out, at);
-    let at = put_operand(out, at, a);
-    let at = put_comma(out, at);
-    let at = put_operand(out, at, b);
-    put_combination_last(out, at, combination)
+    joined(
+        d,
+        further(operand_piece(a)),
+        further(operand_piece(b)),
+        combination_last(combination),
+    )
 }
 
-// One predicate, and `|_` where it is the first place of a pair.
-fn put_first(out: &mut [u8], at: usize, a: Pred, pair: bool) -> usize
-    ensures { λ m. ⌜ Puts (buffer (now (out .entry)) at) (registerText (p a) ++ cond pair (bytes "|") [] ++ cond pair (bytes "_") []) (buffer (now (out .exit)) m) ⌝ }
-{
-    let at = put_pred(out, at, a);
-    let at = push_if(out, at, pair, b'|');
-    push_if(out, at, pair, b'_')
-}
-
-fn put_destination(out: &mut [u8], at: usize, d: Destination) -> usize
-    ensures { λ m. ⌜ Puts (buffer (now (out .entry)) at) (operandText (destinationTree d)) (buffer (now (out .exit)) m) ⌝ }
+fn destination_piece(d: Destination) -> Piece
+    ensures { λ m. ⌜ Shows m (destinationTree d) ⌝ }
 {
     match d {
-        Destination::One(a) => put_first(out, at, a, false),
-        Destination::Pair(a, b) => {
-            let at = put_pred(out, at, a);
-            let at = text::push(out, at, b'|');
-            put_pred(out, at, b)
+        Destination::One(a) => Piece {
+            front: pred_text(a),
+            back: 0,
         },
-        Destination::First(a) => put_first(out, at, a, true),
-        Destination::Second(b) => {
-            let at = put2(out, at, b'_', b'|');
-            put_pred(out, at, b)
+        Destination::Pair(a, b) => Piece {
+            front: pred_text(a),
+            back: before(b'|', pred_text(b)),
+        },
+        Destination::First(a) => Piece {
+            front: pred_text(a),
+            back: before(b'|', b'_' as u64),
+        },
+        Destination::Second(b) => Piece {
+            front: b'_' as u64,
+            back: before(b'|', pred_text(b)),
         },
     }
 }
 
-fn put_set(out: &mut [u8], at: usize, d: Word, s: Comparison) -> usize
-    ensures { λ m. ⌜ Puts (buffer (now (out .entry)) at) (operandText (bare (r d)) ++ further (sourceTrees s)) (buffer (now (out .exit)) m) ⌝ }
-{
-    let at = put_word(out, at, d);
-    put_sources(out, at, s)
-}
-
-fn put_setp(out: &mut [u8], at: usize, d: Destination, s: Comparison) -> usize
-    ensures { λ m. ⌜ Puts (buffer (now (out .entry)) at) (operandText (destinationTree d) ++ further (sourceTrees s)) (buffer (now (out .exit)) m) ⌝ }
-{
-    let at = put_destination(out, at, d);
-    put_sources(out, at, s)
-}
-
-// d, a, b and a comma.
-fn put_choice(out: &mut [u8], at: usize, s: Choice) -> usize
-    ensures { λ m. ⌜ Puts (buffer (now (out .entry)) at) (choiceText s) (buffer (now (out .exit)) m) ⌝ }
+// d, a and b, and a last one that has its comma.
+fn choice_texts(s: Choice, c: Piece) -> [u64; 8]
+    ensures { λ m. ⌜ spelled m ≡ choiceText s (textOf c) ⌝ }
 {
     let d = s.d;
     let a = s.a;
     let b = s.b;
-    let at = put_operand(out, at, d);
-    let at = put_comma(out, at);
-    let at = put_operand(out, at, a);
-    let at = put_comma(out, at);
-    let at = put_operand(out, at, b);
-    put_comma(out, at)
+    joined(
+        operand_piece(d),
+        further(operand_piece(a)),
+        further(operand_piece(b)),
+        c,
+    )
 }
 
-fn put_selp(out: &mut [u8], at: usize, s: Choice, c: Pred) -> usize
-    ensures { λ m. ⌜ Puts (buffer (now (out .entry)) at) (operandsText (choiceTrees s (p c))) (buffer (now (out .exit)) m) ⌝ }
+fn pred_piece(q: Pred) -> Piece
+    ensures { λ m. ⌜ Shows m (bare (p q)) ⌝ }
 {
-    let at = put_choice(out, at, s);
-    put_pred(out, at, c)
-}
-
-fn put_slct(out: &mut [u8], at: usize, s: Choice, c: Word) -> usize
-    ensures { λ m. ⌜ Puts (buffer (now (out .entry)) at) (operandsText (choiceTrees s (r c))) (buffer (now (out .exit)) m) ⌝ }
-{
-    let at = put_choice(out, at, s);
-    put_word(out, at, c)
-}
-
-fn put_operands(out: &mut [u8], at: usize, i: Instruction) -> usize
-    ensures { λ m. ⌜ Puts (buffer (now (out .entry)) at) (operandsText (operandTrees i)) (buffer (now (out .exit)) m) ⌝ }
-{
-    match i {
-        Instruction::Arithmetic { scalar, .. } => put_scalar(out, at, scalar),
-        Instruction::Vset { scalar, .. } => put_scalar(out, at, scalar),
-        Instruction::VsetLanes { lanes, .. } => put_lanes(out, at, lanes),
-        Instruction::Set { d, comparison, .. } => put_set(out, at, d, comparison),
-        Instruction::Setp { d, comparison } => put_setp(out, at, d, comparison),
-        Instruction::Selp { choice, c } => put_selp(out, at, choice, c),
-        Instruction::Slct { choice, c, .. } => put_slct(out, at, choice, c),
+    Piece {
+        front: pred_text(q),
+        back: 0,
     }
 }
 
 // ---- the line
 
-fn put_guard(out: &mut [u8], at: usize, g: Guard) -> usize
-    ensures { λ m. ⌜ Puts (buffer (now (out .entry)) at) (guardPart g) (buffer (now (out .exit)) m) ⌝ }
+// A row of the table: the names of the head, and the operands.
+struct Row {
+    head: [u64; 6],
+    operands: [u64; 8],
+}
+
+fn row_texts(i: Instruction) -> Row
+    ensures { λ m. ⌜ Writes m i ⌝ }
 {
-    match g {
-        Guard::Always => at,
-        Guard::When(c) => {
-            let at = text::push(out, at, b'@');
-            let at = put_condition(out, at, c);
-            text::push(out, at, b' ')
+    match i {
+        Instruction::Arithmetic {
+            op,
+            dtype,
+            sat,
+            scalar,
+        } => Row {
+            head: arithmetic_head(op, dtype, sat, scalar),
+            operands: scalar_texts(scalar),
+        },
+        Instruction::Vset { cmp, scalar } => Row {
+            head: vset_head(cmp, scalar),
+            operands: scalar_texts(scalar),
+        },
+        Instruction::VsetLanes { cmp, lanes } => Row {
+            head: lanes_head(cmp, lanes),
+            operands: lanes_texts(lanes),
+        },
+        Instruction::Set {
+            dtype,
+            d,
+            comparison,
+        } => Row {
+            head: set_head(dtype, d, comparison),
+            operands: sources_texts(word_piece(d), comparison),
+        },
+        Instruction::Setp { d, comparison } => Row {
+            head: setp_head(d, comparison),
+            operands: sources_texts(destination_piece(d), comparison),
+        },
+        Instruction::Selp { choice, c } => Row {
+            head: selp_head(choice, c),
+            operands: choice_texts(choice, further(pred_piece(c))),
+        },
+        Instruction::Slct { ctype, choice, c } => Row {
+            head: slct_head(ctype, choice, c),
+            operands: choice_texts(choice, further(word_piece(c))),
         },
     }
 }
 
-fn standard_line(out: &mut [u8], x: Record) -> usize
-    ensures { λ m. ⌜ Puts (buffer (now (out .entry)) 0) (standard x) (buffer (now (out .exit)) m) ⌝ }
+struct Texts {
+    guard: [u64; 2],
+    head: [u64; 6],
+    operands: [u64; 8],
+}
+
+fn line_texts(x: Record) -> Texts
+    ensures { λ m. ⌜ lineOf m ≡ standard x ⌝ }
 {
     let guard = x.guard;
     let instruction = x.instruction;
-    let at = put_guard(out, 0, guard);
-    let at = put_head(out, at, instruction);
+    let guard = guard_texts(guard);
+    let row = row_texts(instruction);
+    let head = row.head;
+    let operands = row.operands;
+    Texts {
+        guard,
+        head,
+        operands,
+    }
+}
+
+fn put_line(out: &mut [u8], t: Texts) -> usize
+    ensures { λ m. ⌜ Puts (buffer (now (out .entry)) 0) (lineOf t) (buffer (now (out .exit)) m) ⌝ }
+{
+    let guard = t.guard;
+    let head = t.head;
+    let operands = t.operands;
+    let at = text::put_all(out, 0, &guard);
+    let at = text::put_all(out, at, &head);
     let at = text::push(out, at, b' ');
-    let at = put_operands(out, at, instruction);
+    let at = text::put_all(out, at, &operands);
     text::push(out, at, b';')
+}
+
+// The line at the front of buf, where it has room.
+fn copy_out(t: Texts, buf: &mut [u8]) -> Written
+    requires { ⌜ length (lineOf t) ≤ longestLine ⌝ }
+    ensures { λ m. ⌜ outcome (answerOf m) (now (buf .exit)) ≡ copied (lineOf t) (now (buf .entry)) ⌝ }
+{
+    let mut line = [0u8; ROOM];
+    let n = put_line(&mut line, t);
+    if buf.len() < n {
+        return Written::Refused(TOO_SHORT);
+    }
+    text::put(buf, 0, &line[..n]);
+    Written::Length(n)
 }
 
 // ---- the entry point
@@ -758,11 +666,5 @@ pub fn write(x: Record, buf: &mut [u8]) -> Written
     if !record::legal(x) {
         return Written::Refused(NOT_LEGAL);
     }
-    let mut line = [0u8; ROOM];
-    let n = standard_line(&mut line, x);
-    if buf.len() < n {
-        return Written::Refused(TOO_SHORT);
-    }
-    text::put(buf, 0, &line[..n]);
-    Written::Length(n)
+    copy_out(line_texts(x), buf)
 }
