@@ -5,9 +5,14 @@
  * executes the record, and writes one answer per line and, at the end, the
  * registers that differ from their start value.
  *
- * Build:  cc -std=c11 -O2 -Wall -Wextra -Werror second.c -o second
+ *   alone             the listing program
+ *   alone --probe     executes lines one by one, on registers of one's choice
+ *   alone --samples   answers the data lines of SAMPLES.md
+ *
+ * Build:  cc -std=c11 -O2 -Wall -Wextra -Werror alone.c -o alone
  *   -DRAW_IO  uses read and write of <unistd.h> in place of <stdio.h>
  *   -DOWN_IO  leaves read_input and write_output to another file
+ * Both have the listing program alone.
  */
 
 #include <stdbool.h>
@@ -94,7 +99,11 @@ typedef enum {
     BAD_MODIFIERS = 4,
     BAD_OPERANDS = 5,
     BAD_NUMBER = 6,
-    SAME_PLACES = 7
+    SAME_PLACES = 7,
+    NOT_LEGAL = 8,
+    SHORT_BUFFER = 9,
+    BAD_LENGTHS = 10,
+    BAD_PREDICATE = 11
 } Refusal;
 
 /* ------------------------------------------------------------------------
@@ -427,7 +436,7 @@ typedef struct {
 
 static const Part whole_word = { 0, 32 };
 
-enum { DROPPED = P_COUNT };     /* in p and q: the place is `_` or absent */
+enum { DROPPED = 1000 };        /* in p and q, above every number: the place is `_` or absent */
 
 typedef struct {
     bool guarded;
@@ -1049,9 +1058,10 @@ static void put_hex(uint64_t n, unsigned digits)
 /*
  * The standard line.  Guards, heads and operands have one spelling each,
  * apart from default masks and selectors, which the reader has cut off; so
- * the texts of the line itself are joined in the standard way.
+ * the texts of the line itself are joined in the standard way.  Inline, since
+ * the probe calls it as well and the listing shall not become slower by that.
  */
-static void put_standard_line(const Line *line)
+static inline void put_standard_line(const Line *line)
 {
     if (line->guarded) {
         put(line->guard_text.at, line->guard_text.length);
@@ -1123,7 +1133,7 @@ static void run_listing(const Byte *p, const Byte *end, Machine *m)
     }
 }
 
-int main(void)
+static int listing_program(void)
 {
     static Byte input[INPUT_MOST + 1];
     static Machine machine;
@@ -1147,3 +1157,907 @@ int main(void)
     flush_output();
     return 0;
 }
+
+#if defined OWN_IO || defined RAW_IO
+
+int main(void)
+{
+    return listing_program();
+}
+
+#else
+
+/* ------------------------------------------------------------------------
+ * The probe.  Registers are zero at the start.  `=%r5 7FC00000` sets one, `!`
+ * sets all to zero; any other line is executed and shown with what it wrote.
+ * ------------------------------------------------------------------------ */
+
+static void set_register(Machine *m, Place place, uint64_t value)
+{
+    switch (place.file) {
+    case FILE_R:  m->r[place.number] = (uint32_t)value; break;
+    case FILE_RD: m->rd[place.number] = value; break;
+    default:      m->p[place.number] = (Byte)value; break;
+    }
+}
+
+/* The greatest value that a register of the file holds; a predicate is a byte. */
+static uint64_t greatest_value(File file)
+{
+    return file == FILE_R ? UINT32_MAX : file == FILE_RD ? UINT64_MAX : UINT8_MAX;
+}
+
+/* 1 to 16 hexadecimal digits in capitals; NULL if there are none, or more. */
+static const Byte *read_hex(const Byte *p, uint64_t *value)
+{
+    const Byte *start = p;
+    *value = 0;
+    for (; is_digit(*p) || (*p >= 'A' && *p <= 'F'); p++)
+        *value = *value << 4 | (uint64_t)(is_digit(*p) ? *p - '0' : *p - 'A' + 10);
+    return p > start && p - start <= 16 ? p : NULL;
+}
+
+/* `=`, a register, a space and a value that it holds; false changes nothing. */
+static bool read_setting(const Byte *p, Machine *m)
+{
+    Place place;
+    uint64_t value;
+    if (*p != '=')
+        return false;
+    p = read_register(p + 1, &place);
+    if (p == NULL || !number_fits(place) || *p != ' ')
+        return false;
+    p = read_hex(p + 1, &value);
+    if (p == NULL || *p != '\n' || value > greatest_value(place.file))
+        return false;
+    set_register(m, place, value);
+    return true;
+}
+
+static bool has_byte_over_1(const Byte *p)
+{
+    for (unsigned n = 0; n < P_COUNT; n++)
+        if (p[n] > 1)
+            return true;
+    return false;
+}
+
+static void put_value(const char *file, unsigned number, uint64_t value, unsigned digits)
+{
+    put_string(file);
+    put_decimal(number);
+    put_byte('=');
+    put_hex(value, digits);
+}
+
+/* Every register that the record wrote, in the order of its operands. */
+static void put_destinations(const Machine *m, const Record *rec)
+{
+    if (rec->op == W_SETP) {
+        if (rec->p != DROPPED)
+            put_value(" %p", rec->p, m->p[rec->p], 1);
+        if (rec->q != DROPPED)
+            put_value(" %p", rec->q, m->p[rec->q], 1);
+    } else if ((rec->op == W_SELP || rec->op == W_SLCT) && is_wide(rec->dtype)) {
+        put_value(" %rd", rec->d, m->rd[rec->d], 16);
+    } else {
+        put_value(" %r", rec->d, m->r[rec->d], 8);
+    }
+}
+
+static void put_probe_answer(const Byte *p, size_t length, Machine *m)
+{
+    Line line;
+    Record rec;
+    unsigned refusal = read_line(p, length, &line, &rec);
+    if (refusal == ACCEPTED && has_byte_over_1(m->p))
+        refusal = BAD_PREDICATE;
+    if (refusal != ACCEPTED) {
+        put_string("refused ");
+        put_decimal(refusal);
+    } else {
+        bool done = execute(m, &rec);
+        put_string(done ? "done " : "skipped ");
+        put_standard_line(&line);
+        if (done)
+            put_destinations(m, &rec);
+    }
+    put_byte('\n');
+    flush_output();
+}
+
+/* The next line with a line feed behind it; of one that is too long, as much as shows that. */
+static bool next_line(Byte line[LINE_MOST + 2], size_t *length)
+{
+    int byte;
+    *length = 0;
+    while ((byte = getchar()) != EOF && byte != '\n')
+        if (*length <= LINE_MOST)
+            line[(*length)++] = (Byte)byte;
+    line[*length] = '\n';
+    return byte != EOF || *length > 0;
+}
+
+static int probe(void)
+{
+    static const Machine zero;
+    Machine machine = zero;
+    Byte line[LINE_MOST + 2];
+    size_t length;
+
+    fill_dictionary();
+    while (next_line(line, &length)) {
+        if (length == 1 && line[0] == '!')
+            machine = zero;
+        else if (!read_setting(line, &machine))
+            put_probe_answer(line, length, &machine);
+    }
+    return 0;
+}
+
+/* ------------------------------------------------------------------------
+ * Samples: the tokens of the data lines.  What SAMPLES.md does not allow ends
+ * the program.
+ * ------------------------------------------------------------------------ */
+
+enum { TOKEN_MOST = 24 };
+
+static Byte token[TOKEN_MOST + 1];      /* a line feed stands behind its bytes */
+static int behind;                      /* the byte behind it: a space or a line feed */
+static unsigned long data_line;
+
+static _Noreturn void bad_data(const char *why)
+{
+    flush_output();
+    fprintf(stderr, "alone: line %lu of the data: %s\n", data_line, why);
+    exit(2);
+}
+
+static void take_token(void)
+{
+    unsigned length = 0;
+    if (behind == '\n')
+        bad_data("too few tokens");
+    while ((behind = getchar()) != ' ' && behind != '\n') {
+        if (behind == EOF || length == TOKEN_MOST)
+            bad_data("no end of the token");
+        token[length++] = (Byte)behind;
+    }
+    token[length] = '\n';
+    if (length == 0)
+        bad_data("an empty token");
+}
+
+/* Takes the first token of the next line; false at the end of the data. */
+static bool take_data_line(void)
+{
+    data_line++;
+    int first = getchar();
+    if (first == EOF)
+        return false;
+    ungetc(first, stdin);
+    behind = ' ';
+    take_token();
+    return true;
+}
+
+static void end_data_line(void)
+{
+    if (behind != '\n')
+        bad_data("too many tokens");
+}
+
+/* The decimal number of 1 to 3 digits at p, 0 to most. */
+static const Byte *take_number_at(const Byte *p, unsigned most, unsigned *number)
+{
+    const Byte *start = p;
+    for (*number = 0; is_digit(*p) && p - start < 3; p++)
+        *number = *number * 10 + (unsigned)(*p - '0');
+    if (p == start || *number > most)
+        bad_data("no number, or out of its range");
+    return p;
+}
+
+static unsigned take_number(unsigned most)
+{
+    unsigned number;
+    take_token();
+    if (*take_number_at(token, most, &number) != '\n')
+        bad_data("no number");
+    return number;
+}
+
+/* A field that the record may not use; then it is 0. */
+static unsigned take_if(bool used, unsigned most)
+{
+    return take_number(used ? most : 0);
+}
+
+/* ------------------------------------------------------------------------
+ * Samples: records.  Words of one class stand in the order of SAMPLES.md,
+ * apart from the types.
+ * ------------------------------------------------------------------------ */
+
+/* A record and what only the text of its line has when it is read. */
+typedef struct {
+    Record rec;
+    File d_file, a_file, b_file;
+    bool pair;                  /* setp: `%p|_`, not `%p` */
+} Sample;
+
+static const Word type_words[] = {
+    W_B32, W_B64, W_U32, W_U64, W_S32, W_S64, W_F32, W_F64
+};
+
+/* b0 to b3, h0, h1, none. */
+static const Part part_choices[] = {
+    { 0, 8 }, { 8, 8 }, { 16, 8 }, { 24, 8 }, { 0, 16 }, { 16, 16 }, { 0, 32 }
+};
+
+static bool take_bool(void)             { return take_number(1) == 1; }
+static unsigned take_register(void)     { return take_number(999); }
+static Word take_video_type(void)       { return (Word)(W_U32 + take_number(1)); }
+static Word take_type(void)             { return type_words[take_number(7)]; }
+static Word take_cmp(Word last)         { return (Word)(W_EQ + take_number((unsigned)(last - W_EQ))); }
+static File take_file(void)             { return take_bool() ? FILE_RD : FILE_R; }
+
+static void take_guard(Record *rec)
+{
+    unsigned guard = take_number(2);
+    rec->guarded = guard != 0;
+    rec->guard_negated = guard == 2;
+    rec->guard = take_if(rec->guarded, 999);
+}
+
+static void take_scalar(Record *rec)
+{
+    static const unsigned x_most[] = { 0, 5, 2 };
+    rec->atype = take_video_type();
+    rec->btype = take_video_type();
+    unsigned form = take_number(2);
+    rec->d = take_register();
+    unsigned x = take_number(x_most[form]);
+    rec->dpart = form == 1 ? part_choices[x] : whole_word;
+    rec->second = form == 2 ? (Word)(W_ADD + x) : W_NONE;
+    rec->c = take_if(form != 0, 999);
+    rec->apart = part_choices[take_number(6)];
+    rec->a = take_register();
+    rec->bpart = part_choices[take_number(6)];
+    rec->b = take_register();
+}
+
+static void take_lane_digits(unsigned sel[4])
+{
+    for (unsigned i = 0; i < 4; i++)
+        sel[i] = take_number(255);
+}
+
+static void take_lanes(Record *rec)
+{
+    rec->op = take_bool() ? W_VSET4 : W_VSET2;
+    rec->cmp = take_cmp(W_GE);
+    rec->atype = take_video_type();
+    rec->btype = take_video_type();
+    rec->second = take_bool() ? W_ADD : W_NONE;
+    rec->d = take_register();
+    rec->mask = take_number(15);
+    rec->a = take_register();
+    take_lane_digits(rec->asel);
+    rec->b = take_register();
+    take_lane_digits(rec->bsel);
+    rec->c = take_register();
+}
+
+static void take_places(Sample *s)
+{
+    unsigned form = take_number(3);
+    unsigned p = take_if(form != 3, 999);
+    unsigned q = take_if(form == 1 || form == 3, 999);
+    s->pair = form != 0;
+    s->rec.p = form == 3 ? DROPPED : p;
+    s->rec.q = form == 1 || form == 3 ? q : DROPPED;
+}
+
+static void take_comparison(Sample *s)
+{
+    s->rec.cmp = take_cmp(W_NAN);
+    unsigned op = take_number(3);
+    s->rec.second = op == 0 ? W_NONE : (Word)(W_AND + op - 1);
+    s->rec.c_negated = take_if(op != 0, 1) == 1;
+    s->rec.c = take_if(op != 0, 999);
+    s->rec.ftz = take_bool();
+    s->rec.atype = take_type();
+    s->a_file = take_file();
+    s->rec.a = take_register();
+    s->b_file = take_file();
+    s->rec.b = take_register();
+}
+
+static void take_choice(Sample *s)
+{
+    s->rec.dtype = take_type();
+    s->d_file = take_file();
+    s->rec.d = take_register();
+    s->a_file = take_file();
+    s->rec.a = take_register();
+    s->b_file = take_file();
+    s->rec.b = take_register();
+    s->rec.c = take_register();
+}
+
+static void take_slct(Sample *s)
+{
+    unsigned c_type = take_number(2);
+    s->rec.op = W_SLCT;
+    s->rec.btype = c_type == 0 ? W_S32 : W_F32;
+    s->rec.ftz = c_type == 2;
+    take_choice(s);
+}
+
+/* What follows the letter `R`. */
+static void take_record(Sample *s)
+{
+    Record *rec = &s->rec;
+    memset(s, 0, sizeof *s);
+    take_guard(rec);
+    switch (take_number(6)) {
+    case 0:
+        rec->op = (Word)(W_VADD + take_number(4));
+        rec->dtype = take_video_type();
+        rec->sat = take_bool();
+        take_scalar(rec);
+        break;
+    case 1:
+        rec->op = W_VSET;
+        rec->dtype = W_U32;
+        rec->cmp = take_cmp(W_GE);
+        take_scalar(rec);
+        break;
+    case 2:
+        take_lanes(rec);
+        break;
+    case 3:
+        rec->op = W_SET;
+        rec->dtype = (Word)(W_U32 + take_number(2));
+        rec->d = take_register();
+        take_comparison(s);
+        break;
+    case 4:
+        rec->op = W_SETP;
+        take_places(s);
+        take_comparison(s);
+        break;
+    case 5:
+        rec->op = W_SELP;
+        take_choice(s);
+        break;
+    default:
+        take_slct(s);
+        break;
+    }
+}
+
+/* ------------------------------------------------------------------------
+ * Samples: which records are legal.  The files of operands that have but one
+ * are not in a record.
+ * ------------------------------------------------------------------------ */
+
+static bool in_file(File file, unsigned number)
+{
+    return number_fits((Place){ file, number });
+}
+
+/* d's selector, or OP2, comes with c. */
+static bool scalar_has_c(const Record *rec)
+{
+    return rec->second != W_NONE || rec->dpart.width != whole_word.width;
+}
+
+/* Digits of a lane selector; lanes that vset2 has not hold 0. */
+static bool legal_digits(const unsigned sel[4], unsigned lanes)
+{
+    for (unsigned i = 0; i < 4; i++)
+        if (i < lanes ? sel[i] >= 2 * lanes : sel[i] != 0)
+            return false;
+    return true;
+}
+
+static bool legal_lanes(const Record *rec)
+{
+    unsigned lanes = rec->op == W_VSET2 ? 2 : 4;
+    return rec->mask != 0 && rec->mask < 1u << lanes &&
+           legal_digits(rec->asel, lanes) && legal_digits(rec->bsel, lanes) &&
+           in_file(FILE_R, rec->d) && in_file(FILE_R, rec->a) &&
+           in_file(FILE_R, rec->b) && in_file(FILE_R, rec->c);
+}
+
+/* a and b of the file that the type has. */
+static bool legal_sources(const Sample *s, Word type)
+{
+    File file = is_wide(type) ? FILE_RD : FILE_R;
+    return s->a_file == file && in_file(file, s->rec.a) &&
+           s->b_file == file && in_file(file, s->rec.b);
+}
+
+static bool legal_comparison(const Sample *s)
+{
+    const Record *rec = &s->rec;
+    return compares(rec->cmp, rec->atype) && (!rec->ftz || rec->atype == W_F32) &&
+           (rec->second == W_NONE || in_file(FILE_P, rec->c)) &&
+           legal_sources(s, rec->atype);
+}
+
+static bool legal_places(const Record *rec)
+{
+    return (rec->p == DROPPED || in_file(FILE_P, rec->p)) &&
+           (rec->q == DROPPED || in_file(FILE_P, rec->q)) &&
+           rec->p != rec->q;
+}
+
+static bool legal_choice(const Sample *s)
+{
+    const Record *rec = &s->rec;
+    return s->d_file == (is_wide(rec->dtype) ? FILE_RD : FILE_R) &&
+           in_file(s->d_file, rec->d) && legal_sources(s, rec->dtype) &&
+           in_file(rec->op == W_SELP ? FILE_P : FILE_R, rec->c);
+}
+
+static bool legal(const Sample *s)
+{
+    const Record *rec = &s->rec;
+    if (rec->guarded && !in_file(FILE_P, rec->guard))
+        return false;
+    switch (rec->op) {
+    case W_VSET2: case W_VSET4:
+        return legal_lanes(rec);
+    case W_SET:
+        return in_file(FILE_R, rec->d) && legal_comparison(s);
+    case W_SETP:
+        return legal_places(rec) && legal_comparison(s);
+    case W_SELP: case W_SLCT:
+        return legal_choice(s);
+    default:        /* scalar video */
+        return in_file(FILE_R, rec->d) && in_file(FILE_R, rec->a) && in_file(FILE_R, rec->b) &&
+               (!scalar_has_c(rec) || in_file(FILE_R, rec->c));
+    }
+}
+
+/* ------------------------------------------------------------------------
+ * Samples: the standard line of a legal record
+ * ------------------------------------------------------------------------ */
+
+static void put_operand(File file, unsigned number)
+{
+    static const char *const names[] = { "%r", "%rd", "%p" };
+    put_string(names[file]);
+    put_decimal(number);
+}
+
+/* An operand behind another one. */
+static void put_next(File file, unsigned number)
+{
+    put_string(", ");
+    put_operand(file, number);
+}
+
+static void put_modifier(Word w)
+{
+    if (w != W_NONE) {
+        put_byte('.');
+        put_string(spelling[w]);
+    }
+}
+
+static void put_part(Part part)
+{
+    if (part.width == whole_word.width)
+        return;
+    put_string(part.width == 8 ? ".b" : ".h");
+    put_decimal(part.shift / part.width);
+}
+
+/* The highest lane is the leftmost digit; the default is left out. */
+static void put_lane_selector(const unsigned sel[4], unsigned lanes, unsigned first)
+{
+    bool is_default = true;
+    for (unsigned i = 0; i < lanes; i++)
+        if (sel[i] != first + i)
+            is_default = false;
+    if (is_default)
+        return;
+    put_string(lanes == 2 ? ".h" : ".b");
+    for (unsigned i = lanes; i-- > 0;)
+        put_decimal(sel[i]);
+}
+
+static void put_mask(unsigned mask, unsigned lanes)
+{
+    if (mask == (1u << lanes) - 1)
+        return;
+    put_string(lanes == 2 ? ".h" : ".b");
+    for (unsigned i = lanes; i-- > 0;)
+        if ((mask >> i & 1) != 0)
+            put_decimal(i);
+}
+
+static void put_scalar_operands(const Record *rec)
+{
+    put_operand(FILE_R, rec->d);
+    put_part(rec->dpart);
+    put_next(FILE_R, rec->a);
+    put_part(rec->apart);
+    put_next(FILE_R, rec->b);
+    put_part(rec->bpart);
+    if (scalar_has_c(rec))
+        put_next(FILE_R, rec->c);
+}
+
+static void put_lane_operands(const Record *rec)
+{
+    unsigned lanes = rec->op == W_VSET2 ? 2 : 4;
+    put_operand(FILE_R, rec->d);
+    put_mask(rec->mask, lanes);
+    put_next(FILE_R, rec->a);
+    put_lane_selector(rec->asel, lanes, 0);
+    put_next(FILE_R, rec->b);
+    put_lane_selector(rec->bsel, lanes, lanes);
+    put_next(FILE_R, rec->c);
+}
+
+static void put_place(unsigned number)
+{
+    if (number == DROPPED)
+        put_byte('_');
+    else
+        put_operand(FILE_P, number);
+}
+
+static void put_comparison_operands(const Sample *s)
+{
+    const Record *rec = &s->rec;
+    if (rec->op == W_SET) {
+        put_operand(FILE_R, rec->d);
+    } else {
+        put_place(rec->p);
+        if (s->pair) {
+            put_byte('|');
+            put_place(rec->q);
+        }
+    }
+    put_next(s->a_file, rec->a);
+    put_next(s->b_file, rec->b);
+    if (rec->second != W_NONE) {
+        put_string(rec->c_negated ? ", !" : ", ");
+        put_operand(FILE_P, rec->c);
+    }
+}
+
+static void put_choice_operands(const Sample *s)
+{
+    put_operand(s->d_file, s->rec.d);
+    put_next(s->a_file, s->rec.a);
+    put_next(s->b_file, s->rec.b);
+    put_next(s->rec.op == W_SELP ? FILE_P : FILE_R, s->rec.c);
+}
+
+/* Modifiers in the order of document 01's table. */
+static void put_head(const Record *rec)
+{
+    put_string(spelling[rec->op]);
+    switch (rec->op) {
+    case W_VSET: case W_VSET2: case W_VSET4:
+        put_modifier(rec->atype);
+        put_modifier(rec->btype);
+        put_modifier(rec->cmp);
+        put_modifier(rec->second);
+        break;
+    case W_SET: case W_SETP:
+        put_modifier(rec->cmp);
+        put_modifier(rec->second);
+        put_modifier(rec->ftz ? W_FTZ : W_NONE);
+        put_modifier(rec->op == W_SET ? rec->dtype : W_NONE);
+        put_modifier(rec->atype);
+        break;
+    case W_SELP: case W_SLCT:
+        put_modifier(rec->ftz ? W_FTZ : W_NONE);
+        put_modifier(rec->dtype);
+        put_modifier(rec->op == W_SLCT ? rec->btype : W_NONE);
+        break;
+    default:        /* scalar arithmetic */
+        put_modifier(rec->dtype);
+        put_modifier(rec->atype);
+        put_modifier(rec->btype);
+        put_modifier(rec->sat ? W_SAT : W_NONE);
+        put_modifier(rec->second);
+        break;
+    }
+}
+
+static void put_record(const Sample *s)
+{
+    const Record *rec = &s->rec;
+    if (rec->guarded) {
+        put_string(rec->guard_negated ? "@!" : "@");
+        put_operand(FILE_P, rec->guard);
+        put_byte(' ');
+    }
+    put_head(rec);
+    put_byte(' ');
+    switch (rec->op) {
+    case W_VSET2: case W_VSET4: put_lane_operands(rec); break;
+    case W_SET: case W_SETP:    put_comparison_operands(s); break;
+    case W_SELP: case W_SLCT:   put_choice_operands(s); break;
+    default:                    put_scalar_operands(rec); break;
+    }
+    put_byte(';');
+}
+
+/* ------------------------------------------------------------------------
+ * Samples: writing
+ * ------------------------------------------------------------------------ */
+
+enum { BUFFER_MOST = 72, MARGIN = 8, ROOM = MARGIN + BUFFER_MOST + MARGIN };
+
+/* Stores the standard line of a legal record and returns its length. */
+static size_t standard_line(const Sample *s, Byte *to)
+{
+    size_t start = output_length;
+    put_record(s);
+    size_t length = output_length - start;
+    output_length = start;      /* it was only collected there */
+    memcpy(to, output + start, length);
+    return length;
+}
+
+/* The length of the line, or minus the refusal. */
+static int write_record(const Sample *s, Byte *buffer, size_t size)
+{
+    if (!legal(s))
+        return -NOT_LEGAL;
+    Byte line[LINE_MOST];
+    size_t length = standard_line(s, line);
+    if (length > size)
+        return -SHORT_BUFFER;
+    memcpy(buffer, line, length);
+    return (int)length;
+}
+
+/*
+ * Puts the answer for a buffer of `size` bytes, which begins behind a margin,
+ * and `!` if the buffer and what lies around it are not as they have to be.
+ */
+static int put_written(const Sample *s, size_t size)
+{
+    Byte room[ROOM], wanted[ROOM];
+    memset(room, '#', ROOM);
+    memset(wanted, '#', ROOM);
+    int answer = write_record(s, room + MARGIN, size);
+    if (answer >= 0)
+        standard_line(s, wanted + MARGIN);
+    put_string(answer < 0 ? " -" : " ");
+    put_decimal((unsigned)(answer < 0 ? -answer : answer));
+    if (memcmp(room, wanted, ROOM) != 0)
+        put_byte('!');
+    return answer;
+}
+
+static void put_record_answer(const Sample *s)
+{
+    begin_line();
+    put_byte(legal(s) ? '+' : '8');
+    int length = put_written(s, BUFFER_MOST);
+    if (length >= 0) {
+        put_written(s, (size_t)length);
+        put_written(s, (size_t)length - 1);
+        put_written(s, 0);
+        put_byte(' ');
+        put_record(s);
+    }
+    put_byte('\n');
+}
+
+/* ------------------------------------------------------------------------
+ * Samples: runs
+ * ------------------------------------------------------------------------ */
+
+enum { VALUES_MOST = 32, OPEN_MOST = 2 };
+
+/* Lent files, with one place more than they should have. */
+typedef struct {
+    uint32_t r[R_COUNT + 1];
+    uint64_t rd[RD_COUNT + 1];
+    Byte p[P_COUNT + 1];
+    unsigned length[3];         /* by File */
+} Files;
+
+typedef struct {
+    Files files;
+    unsigned opened;
+    Place open[OPEN_MOST];
+} Setup;
+
+static uint64_t values[VALUES_MOST];    /* of the last line `V` */
+static unsigned value_count;
+
+static const unsigned usual_length[3] = { R_COUNT, RD_COUNT, P_COUNT };
+
+static void start_files(Files *files)
+{
+    for (unsigned n = 0; n <= R_COUNT; n++)
+        files->r[n] = start_r(n);
+    for (unsigned n = 0; n <= RD_COUNT; n++)
+        files->rd[n] = start_rd(n);
+    memset(files->p, 0, sizeof files->p);
+    memcpy(files->length, usual_length, sizeof usual_length);
+}
+
+static void set_place(Files *files, Place place, uint64_t value)
+{
+    switch (place.file) {
+    case FILE_R:  files->r[place.number] = (uint32_t)value; break;
+    case FILE_RD: files->rd[place.number] = value; break;
+    default:      files->p[place.number] = (Byte)value; break;
+    }
+}
+
+typedef enum { RUN_DONE, RUN_SKIPPED, RUN_REFUSED } Run;
+
+static Run execute_record(const Sample *s, Files *files, Refusal *refusal)
+{
+    *refusal = !legal(s) ? NOT_LEGAL
+             : memcmp(files->length, usual_length, sizeof usual_length) != 0 ? BAD_LENGTHS
+             : has_byte_over_1(files->p) ? BAD_PREDICATE : ACCEPTED;
+    if (*refusal != ACCEPTED)
+        return RUN_REFUSED;
+    Machine m;
+    memcpy(m.r, files->r, sizeof m.r);
+    memcpy(m.rd, files->rd, sizeof m.rd);
+    memcpy(m.p, files->p, sizeof m.p);
+    bool done = execute(&m, &s->rec);
+    memcpy(files->r, m.r, sizeof m.r);
+    memcpy(files->rd, m.rd, sizeof m.rd);
+    memcpy(files->p, m.p, sizeof m.p);
+    return done ? RUN_DONE : RUN_SKIPPED;
+}
+
+static void put_changed_places(const Files *before, const Files *after)
+{
+    for (unsigned n = 0; n <= R_COUNT; n++)
+        if (after->r[n] != before->r[n])
+            put_value("r", n, after->r[n], 8);
+    for (unsigned n = 0; n <= RD_COUNT; n++)
+        if (after->rd[n] != before->rd[n])
+            put_value("d", n, after->rd[n], 16);
+    for (unsigned n = 0; n <= P_COUNT; n++)
+        if (after->p[n] != before->p[n])
+            put_value("p", n, after->p[n], 1);
+}
+
+static void put_run(const Sample *s, const Files *before)
+{
+    Files after = *before;
+    Refusal refusal;
+    Run run = execute_record(s, &after, &refusal);
+    put_byte((Byte)"+~-"[run]);
+    if (run == RUN_REFUSED)
+        put_decimal(refusal);
+    put_changed_places(before, &after);
+}
+
+static void put_runs(const Sample *s, const Setup *setup)
+{
+    unsigned rows = setup->opened == OPEN_MOST ? value_count : 1;
+    unsigned columns = setup->opened > 0 ? value_count : 1;
+    for (unsigned row = 0; row < rows; row++) {
+        for (unsigned column = 0; column < columns; column++) {
+            Files files = setup->files;
+            if (setup->opened == OPEN_MOST)
+                set_place(&files, setup->open[0], values[row]);
+            if (setup->opened > 0)
+                set_place(&files, setup->open[setup->opened - 1], values[column]);
+            begin_line();
+            if (column > 0)
+                put_byte(' ');
+            put_run(s, &files);
+        }
+        put_byte('\n');
+    }
+}
+
+/* `r3=7FC00000`, or `r3` alone: an open register. */
+static void take_place(File file, Setup *setup)
+{
+    Place place = { file, 0 };
+    uint64_t value;
+    const Byte *p = take_number_at(token + 1, usual_length[file], &place.number);
+    if (*p == '=') {
+        p = read_hex(p + 1, &value);
+        if (p == NULL || value > greatest_value(file))
+            bad_data("no value of the register");
+        set_place(&setup->files, place, value);
+    } else {
+        if (setup->opened == OPEN_MOST || value_count == 0)
+            bad_data("too many open registers, or no values for them");
+        setup->open[setup->opened++] = place;
+    }
+    if (*p != '\n')
+        bad_data("no token of a line X");
+}
+
+static void take_length(File file, Setup *setup)
+{
+    if (*take_number_at(token + 1, usual_length[file] + 1, &setup->files.length[file]) != '\n')
+        bad_data("no length");
+}
+
+/* What follows the letter `X`. */
+static void take_setup(Setup *setup)
+{
+    setup->opened = 0;
+    start_files(&setup->files);
+    while (behind != '\n') {
+        take_token();
+        switch (token[0]) {
+        case 'r': take_place(FILE_R, setup); break;
+        case 'd': take_place(FILE_RD, setup); break;
+        case 'p': take_place(FILE_P, setup); break;
+        case 'R': take_length(FILE_R, setup); break;
+        case 'D': take_length(FILE_RD, setup); break;
+        case 'P': take_length(FILE_P, setup); break;
+        default:  bad_data("no token of a line X");
+        }
+    }
+}
+
+/* What follows the letter `V`. */
+static void take_values(void)
+{
+    for (value_count = 0; behind != '\n'; value_count++) {
+        if (value_count == VALUES_MOST)
+            bad_data("too many values");
+        take_token();
+        const Byte *p = read_hex(token, &values[value_count]);
+        if (p == NULL || *p != '\n')
+            bad_data("no value");
+    }
+}
+
+static int samples(void)
+{
+    Sample sample;
+    Setup setup;
+    bool has_record = false;
+
+    while (take_data_line()) {
+        Byte letter = token[1] == '\n' ? token[0] : 0;
+        if (letter == 'R') {
+            take_record(&sample);
+            has_record = true;
+            end_data_line();
+            put_record_answer(&sample);
+        } else if (letter == 'X' && has_record) {
+            take_setup(&setup);
+            put_runs(&sample, &setup);
+        } else if (letter == 'V') {
+            take_values();
+        } else {
+            bad_data("no letter of a data line, or X with no record");
+        }
+    }
+    flush_output();
+    return 0;
+}
+
+int main(int argc, char **argv)
+{
+    if (argc == 1)
+        return listing_program();
+    if (argc == 2 && strcmp(argv[1], "--probe") == 0)
+        return probe();
+    if (argc == 2 && strcmp(argv[1], "--samples") == 0)
+        return samples();
+    fputs("usage: alone [--probe | --samples]\n", stderr);
+    return 2;
+}
+
+#endif

@@ -1,4 +1,7 @@
 // The operands of a line, taken into the instruction that its head names.
+use masks::DigitsFound;
+use masks::MaskFound;
+use names::SelectorName;
 use record::Arith;
 use record::BoolOp;
 use record::Choice;
@@ -29,13 +32,8 @@ use tree::Place;
 use tree::Spot;
 use tree::Tree;
 ghost use mathlib.Core.Path.{_≡_};
-ghost use Prim.Native.Nat.{_<_};
-ghost use Rattle.base.specs.Pack.{pack};
-ghost use Rattle.rules.specs.Shape.{digit};
-ghost use Rattle.rules.specs.Names.{digitsName};
 ghost use Rattle.record.specs.Operands.{fullMask};
 ghost use Rattle.fills.specs.Registers.{wordOf, predOf, operandOf, bareWord, barePred, bareOperand, conditionBy, conditionOf, spotBy, spotOf, pairBy, secondBy, spotsBy, oneBy, destinationOf};
-ghost use Rattle.fills.specs.Selectors.{selectorOf, maskFound, halfMask, byteMask, maskOf, digitsIn, digitsOf};
 ghost use Rattle.fills.specs.Fills.{treeAt, wholeBy, partBy, selectedOf, startPlain, startCombine, startOf, lastBy, plainForm, mergeForm, combineForm, formOf, scalarBy, scalarEnd, scalarOf, maskedBy, maskedOf, lanedBy, lanedOf, lanesWith, lanesBy, lanesOf, aloneBy, withBy, combinationOf, comparisonBy, comparisonEnd, comparisonOf, choiceBy, choiceOf, arithmeticFrom, vsetFrom, lanesFrom, setFrom, setpFrom, predLast, selpFrom, slctFrom, filledOf};
 
 // The instruction with the line's operands, or the index of the first operand that is wrong.
@@ -46,15 +44,6 @@ pub enum Filled {
 
 // The places that are kept of a line's operands.
 const KEPT: usize = 5;
-
-// A name's bytes are the digits of its number, the first the lowest; and the bytes `0`, `b` and `h`.
-const RADIX: u64 = 128;
-
-const ZERO: u64 = 48;
-
-const LETTER_B: u64 = 98;
-
-const LETTER_H: u64 = 104;
 
 // ---- an operand by its place
 
@@ -259,149 +248,6 @@ fn destination_of(t: Tree) -> DestinationFound
     }
 }
 
-// ---- names of selectors and masks, by their numbers
-
-enum SelectorFound {
-    Is(Selector),
-    Not,
-}
-
-enum MaskFound {
-    Is(Mask),
-    Not,
-}
-
-enum DigitsFound {
-    Is(Digits),
-    Not,
-}
-
-// b0 b1 b2 b3 h0 h1
-fn selector_of(x: u64) -> SelectorFound
-    ensures { λ r. ⌜ r ≡ selectorOf x ⌝ }
-{
-    match x {
-        6242 => SelectorFound::Is(Selector::B0), // b0
-        6370 => SelectorFound::Is(Selector::B1), // b1
-        6498 => SelectorFound::Is(Selector::B2), // b2
-        6626 => SelectorFound::Is(Selector::B3), // b3
-        6248 => SelectorFound::Is(Selector::H0), // h0
-        6376 => SelectorFound::Is(Selector::H1), // h1
-        _ => SelectorFound::Not,
-    }
-}
-
-// The lanes in the order of a name's digits.
-fn mask_found(lane3: bool, lane2: bool, lane1: bool, lane0: bool) -> MaskFound
-    ensures { λ r. ⌜ r ≡ maskFound lane3 lane2 lane1 lane0 ⌝ }
-{
-    MaskFound::Is(Mask {
-        lane0,
-        lane1,
-        lane2,
-        lane3,
-    })
-}
-
-// h0 h1 h10
-fn half_mask(x: u64) -> MaskFound
-    ensures { λ r. ⌜ r ≡ halfMask x ⌝ }
-{
-    match x {
-        6248 => mask_found(false, false, false, true), // h0
-        6376 => mask_found(false, false, true, false), // h1
-        792808 => mask_found(false, false, true, true), // h10
-        _ => MaskFound::Not,
-    }
-}
-
-// The fifteen names of `b` and strictly falling digits from 3 2 1 0.
-fn byte_mask(x: u64) -> MaskFound
-    ensures { λ r. ⌜ r ≡ byteMask x ⌝ }
-{
-    match x {
-        6242 => mask_found(false, false, false, true), // b0
-        6370 => mask_found(false, false, true, false), // b1
-        792802 => mask_found(false, false, true, true), // b10
-        6498 => mask_found(false, true, false, false), // b2
-        792930 => mask_found(false, true, false, true), // b20
-        809314 => mask_found(false, true, true, false), // b21
-        101472610 => mask_found(false, true, true, true), // b210
-        6626 => mask_found(true, false, false, false), // b3
-        793058 => mask_found(true, false, false, true), // b30
-        809442 => mask_found(true, false, true, false), // b31
-        101472738 => mask_found(true, false, true, true), // b310
-        825826 => mask_found(true, true, false, false), // b32
-        101489122 => mask_found(true, true, false, true), // b320
-        103586274 => mask_found(true, true, true, false), // b321
-        12988488162 => mask_found(true, true, true, true), // b3210
-        _ => MaskFound::Not,
-    }
-}
-
-fn mask_of(w: LaneWidth, x: u64) -> MaskFound
-    ensures { λ r. ⌜ r ≡ maskOf w x ⌝ }
-{
-    match w {
-        LaneWidth::Half => half_mask(x),
-        LaneWidth::Byte => byte_mask(x),
-    }
-}
-
-// What a digit stands for: the low bits of its byte, 0-3 of a half's and 0-7 of a byte's. The first digit is the highest lane's.
-fn digits_in(w: LaneWidth, x: u64) -> Digits
-    ensures { λ r. ⌜ r ≡ digitsIn w x ⌝ }
-{
-    let x1 = x / RADIX;
-    let x2 = x1 / RADIX;
-    let x3 = x2 / RADIX;
-    let x4 = x3 / RADIX;
-    match w {
-        LaneWidth::Half => Digits {
-            lane0: (x2 % 4) as u8,
-            lane1: (x1 % 4) as u8,
-            lane2: 0,
-            lane3: 0,
-        },
-        LaneWidth::Byte => Digits {
-            lane0: (x4 % 8) as u8,
-            lane1: (x3 % 8) as u8,
-            lane2: (x2 % 8) as u8,
-            lane3: (x1 % 8) as u8,
-        },
-    }
-}
-
-// The byte of a digit.
-fn digit(k: u8) -> u64
-    ensures { λ r. ⌜ (r ≡ digit k) × (r < 58) ⌝ }
-{
-    (k % 10) as u64 + ZERO
-}
-
-// The number of a selector's name.
-fn digits_code(w: LaneWidth, s: Digits) -> u64
-    ensures { λ r. ⌜ r ≡ pack (digitsName w s) ⌝ }
-{
-    let low = digit(s.lane1) + RADIX * digit(s.lane0);
-    let high = digit(s.lane3) + RADIX * digit(s.lane2);
-    match w {
-        LaneWidth::Half => LETTER_H + RADIX * low,
-        LaneWidth::Byte => LETTER_B + RADIX * (high + RADIX * RADIX * low),
-    }
-}
-
-// The name is a selector's exactly when what its digits stand for has this very name.
-fn digits_of(w: LaneWidth, x: u64) -> DigitsFound
-    ensures { λ r. ⌜ r ≡ digitsOf w x ⌝ }
-{
-    let s = digits_in(w, x);
-    if digits_code(w, s) == x {
-        return DigitsFound::Is(s);
-    }
-    DigitsFound::Not
-}
-
 // ---- scalar video
 
 enum SelectedFound {
@@ -446,13 +292,13 @@ fn whole_by(w: WordFound) -> SelectedFound
     }
 }
 
-fn part_by(w: WordFound, s: SelectorFound) -> SelectedFound
+fn part_by(w: WordFound, s: SelectorName) -> SelectedFound
     ensures { λ r. ⌜ r ≡ partBy w s ⌝ }
 {
     let WordFound::Is(v) = w else {
         return SelectedFound::Not;
     };
-    let SelectorFound::Is(sel) = s else {
+    let SelectorName::Is(sel) = s else {
         return SelectedFound::Not;
     };
     SelectedFound::Is(Selected::Part(v, sel))
@@ -465,7 +311,7 @@ fn selected_of(t: Tree) -> SelectedFound
         Tree::Inverted(_) => SelectedFound::Not,
         Tree::Pair(_, _) => SelectedFound::Not,
         Tree::Bare(p) => whole_by(word_of(p)),
-        Tree::Part(p, x) => part_by(word_of(p), selector_of(x)),
+        Tree::Part(p, x) => part_by(word_of(p), names::selector_of(x)),
     }
 }
 
@@ -677,7 +523,7 @@ fn masked_of(w: LaneWidth, t: Tree) -> MaskedFound
         Tree::Inverted(_) => MaskedFound::Not,
         Tree::Pair(_, _) => MaskedFound::Not,
         Tree::Bare(p) => masked_by(word_of(p), full_mask(w)),
-        Tree::Part(p, x) => masked_by(word_of(p), mask_of(w, x)),
+        Tree::Part(p, x) => masked_by(word_of(p), masks::mask_of(w, x)),
     }
 }
 
@@ -689,7 +535,7 @@ fn laned_of(w: LaneWidth, default: Digits, t: Tree) -> LanedFound
         Tree::Inverted(_) => LanedFound::Not,
         Tree::Pair(_, _) => LanedFound::Not,
         Tree::Bare(p) => laned_by(word_of(p), DigitsFound::Is(default)),
-        Tree::Part(p, x) => laned_by(word_of(p), digits_of(w, x)),
+        Tree::Part(p, x) => laned_by(word_of(p), masks::digits_of(w, x)),
     }
 }
 

@@ -148,7 +148,7 @@ abbrev isName : Name → Bool
 isName [] = false
 isName (b ∷ n) = every isNameByte (b ∷ n)
 
-named : {n : Name} → isName n ≡ true → GoodName n
+pub named : {n : Name} → isName n ≡ true → GoodName n
 named {n = []} h = absurd (false≢true h)
 named {n = b ∷ l} h = record { all = all-of (b ∷ l) h; some = omega arith }
 
@@ -194,7 +194,7 @@ mask-bytes : (t u v x : Bool)
     → every isNameByte (cond t (bytes "3") [] ++ cond u (bytes "2") [] ++ cond v (bytes "1") [] ++ cond x (bytes "0") []) ≡ true
 mask-bytes t u v x = simp (every-append, lane-named)
 
-mask-named : (w : LaneWidth) (m : Mask) → isName (maskName w m) ≡ true
+pub mask-named : (w : LaneWidth) (m : Mask) → isName (maskName w m) ≡ true
 mask-named Half m = mask-bytes (m .lane3) (m .lane2) (m .lane1) (m .lane0)
 mask-named Byte m = mask-bytes (m .lane3) (m .lane2) (m .lane1) (m .lane0)
 
@@ -202,7 +202,7 @@ mask-named Byte m = mask-bytes (m .lane3) (m .lane2) (m .lane1) (m .lane0)
 digit-named : (n : ℕ) → isNameByte (digit n) ≡ true
 digit-named n = simp (le-leb 48 (digit n) (omega arith), le-leb (digit n) 57 (omega arith), or-true)
 
-digits-named : (w : LaneWidth) (s : Digits) → isName (digitsName w s) ≡ true
+pub digits-named : (w : LaneWidth) (s : Digits) → isName (digitsName w s) ≡ true
 digits-named Half s = simp digit-named
 digits-named Byte s = simp digit-named
 

@@ -1,11 +1,11 @@
 // Texts put into a lent buffer from a place on. What has no room is left out, so that no text asks for any.
 ghost use mathlib.Core.Path.{_≡_};
 ghost use mathlib.Core.List.{[], _∷_};
-ghost use Prim.Native.Nat.{_+_, _-_, _≤_, _<_};
+ghost use Prim.Native.Nat.{_+_, _-_, _%_, _≤_, _<_};
 ghost use lib.ListN.{length};
 ghost use lib.Seq.{paste};
 ghost use Rattle.text.specs.Buffer.{buffer, Puts};
-ghost use Rattle.text.specs.Digits.{decimal, hexDigit, hex};
+ghost use Rattle.text.specs.Digits.{zeroByte, decimal, hexDigit, hex};
 ghost use Rattle.base.specs.Pack.{unpacked, spelled};
 
 // One byte; answers the next place.
@@ -65,15 +65,22 @@ pub fn put(out: &mut [u8], at: usize, text: &[u8]) -> usize
     put_some(out, at, text)
 }
 
+// The last decimal digit of a number.
+pub fn digit(n: u64) -> u8
+    ensures { λ r. ⌜ r ≡ n % 10 + zeroByte ⌝ }
+{
+    (n % 10) as u8 + b'0'
+}
+
 // A number in decimal.
 pub fn put_decimal(out: &mut [u8], at: usize, n: u64) -> usize
     ensures { λ r. ⌜ Puts (buffer (now (out .entry)) at) (decimal n) (buffer (now (out .exit)) r) ⌝ }
 {
     if n < 10 {
-        return push(out, at, n as u8 + b'0');
+        return push(out, at, digit(n));
     }
     let next = put_decimal(out, at, n / 10);
-    push(out, next, (n % 10) as u8 + b'0')
+    push(out, next, digit(n))
 }
 
 fn hex_digit(d: u8) -> u8
@@ -97,15 +104,15 @@ pub fn put_hex(out: &mut [u8], at: usize, x: u64, digits: u8) -> usize
     push(out, next, hex_digit((x % 16) as u8))
 }
 
-// A short text that is kept as a number: its bytes are the digits at base 128, the first the lowest.
+// A short text that is kept as a number.
 fn put_short(out: &mut [u8], at: usize, x: u64) -> usize
     ensures { λ r. ⌜ Puts (buffer (now (out .entry)) at) (unpacked x) (buffer (now (out .exit)) r) ⌝ }
 {
     let mut next = at;
     let mut left = x;
     while left != 0 {
-        next = push(out, next, (left % 128) as u8);
-        left = left / 128;
+        next = push(out, next, (left % base::RADIX) as u8);
+        left = left / base::RADIX;
     }
     next
 }

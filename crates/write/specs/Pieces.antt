@@ -20,32 +20,6 @@ use Rattle.rules.specs.Names.{when, laneLetter, maskName}
 use Rattle.rules.specs.StandardLine.{p, conditionTree, guardPart, further}
 use Rattle.write.specs.declared.Piece.{Piece}
 
--- ==== digits
-
-digit-plain : (n : ℕ) → isPlain (digit n) ≡ true
-digit-plain n = rw (lt-ltb 0 (digit n) (omega arith), lt-ltb (digit n) radix (omega arith))
-
-pub digit-spells : (n : ℕ) → Spells 1 (digit n) (digit n ∷ [])
-digit-spells n = record { few = omega arith; code = omega arith; small = omega arith; plain = rw (digit-plain n) refl }
-
-pub digit-more : {k x : ℕ} {w : List ℕ} (n : ℕ) → suc k ≤ 9 → Spells k x w → Spells (suc k) (digit n + radix * x) (digit n ∷ w)
-digit-more n h s = spells-more (digit n) (digit-plain n) h s
-
--- the digits of the lanes that a mask names, the number made from the last one on
-abbrev lanesText : Mask → List ℕ
-lanesText m = cond (m .lane3) (bytes "3") [] ++ (cond (m .lane2) (bytes "2") [] ++ (cond (m .lane1) (bytes "1") [] ++ (cond (m .lane0) (bytes "0") [] ++ [])))
-
-pub mask-spells : {w x y z : ℕ} (m : Mask) → w ≡ cond (m .lane0) (48 + radix * 0) 0 → x ≡ cond (m .lane1) (49 + radix * w) w
-    → y ≡ cond (m .lane2) (50 + radix * x) x → z ≡ cond (m .lane3) (51 + radix * y) y → Spells 4 z (lanesText m)
-mask-spells m d e f g =
-    spells-maybe (m .lane3) 51 refl (omega arith) g
-    (spells-maybe (m .lane2) 50 refl (omega arith) f
-    (spells-maybe (m .lane1) 49 refl (omega arith) e
-    (spells-maybe (m .lane0) 48 refl (omega arith) d (written 0 [] refl))))
-
-pub mask-name : (w : LaneWidth) (m : Mask) → laneLetter w ++ lanesText m ≡ maskName w m
-mask-name w m = simp (append-assoc, append-nil)
-
 -- ==== guards
 
 pub guard-spelled : {x : ℕ} (c : Condition) → Spells 6 x (operandText (conditionTree c)) → spelled ((64 + radix * x) ∷ 32 ∷ []) ≡ guardPart (When c)

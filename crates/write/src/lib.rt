@@ -26,15 +26,14 @@ use record::SlctType;
 use record::VideoType;
 use record::Word;
 ghost use mathlib.Core.Path.{_≡_};
-ghost use mathlib.Core.Bool.{cond};
 ghost use mathlib.Core.List.{_++_};
 ghost use Prim.Native.Nat.{_+_, _*_, _^_, _≤_, _<_};
 ghost use lib.ListN.{length};
 ghost use Rattle.base.specs.Pack.{spelled, Spells};
 ghost use Rattle.rules.specs.Executing.{operandPlace, double};
 ghost use Rattle.record.specs.declared.Instruction.the-variants.{Arithmetic, Vset, VsetLanes, Set, Setp, Selp, Slct};
-ghost use Rattle.rules.specs.Shape.{bare, part, digit, numberText, registerText, headText, operandText};
-ghost use Rattle.rules.specs.Names.{formOp2, combinationNames, headNames, selectorName, maskName, digitsName};
+ghost use Rattle.rules.specs.Shape.{bare, part, numberText, registerText, headText, operandText};
+ghost use Rattle.rules.specs.Names.{formOp2, combinationNames, headNames, selectorName};
 ghost use Rattle.rules.specs.StandardLine.{r, p, selectedTree, formTree, formLast, sameMask, sameDigits, maskTree, digitsTree, conditionTree, combinationLast, destinationTree, scalarTrees, lanesTrees, sourceTrees, guardPart, further, operandsText, standard};
 ghost use Rattle.rules.specs.LineLengths.{longestLine};
 ghost use Rattle.rules.specs.Writing.{outcome, writing};
@@ -59,34 +58,27 @@ const TOO_SHORT: u8 = 9;
 
 // ---- short texts as numbers: the bytes are the digits at base 128, the first the lowest
 
-const RADIX: u64 = 128;
-
 // One byte before a text of at most eight.
 fn before(b: u8, x: u64) -> u64
     requires { ⌜ x < 2 ^ 56 ⌝ }
     ensures { λ m. ⌜ m ≡ b + 128 * x ⌝ }
 {
-    (b as u64) + RADIX * x
-}
-
-fn digit(n: u16) -> u8
-    ensures { λ m. ⌜ m ≡ digit n ⌝ }
-{
-    (n % 10) as u8 + b'0'
+    (b as u64) + base::RADIX * x
 }
 
 fn number_text(n: u16) -> u64
     ensures { λ m. ⌜ Spells 3 m (numberText n) ⌝ }
 {
-    let ones = digit(n) as u64;
+    let n = n as u64;
+    let ones = text::digit(n) as u64;
     if n < 10 {
         return ones;
     }
-    let tens = before(digit(n / 10), ones);
+    let tens = before(text::digit(n / 10), ones);
     if n < 100 {
         return tens;
     }
-    before(digit(n / 100), tens)
+    before(text::digit(n / 100), tens)
 }
 
 fn word_text(w: Word) -> u64
@@ -390,29 +382,6 @@ fn same_digits(s: Digits, t: Digits) -> bool
     (s.lane0 == t.lane0) & (s.lane1 == t.lane1) & (s.lane2 == t.lane2) & (s.lane3 == t.lane3)
 }
 
-fn digit_if(t: bool, b: u8, x: u64) -> u64
-    requires { ⌜ x < 2 ^ 56 ⌝ }
-    ensures { λ m. ⌜ (m ≡ cond t (b + 128 * x) x) × (m ≤ b + 128 * x) ⌝ }
-{
-    if t {
-        return before(b, x);
-    }
-    x
-}
-
-fn mask_text(w: LaneWidth, k: Mask) -> u64
-    ensures { λ m. ⌜ Spells 5 m (maskName w k) ⌝ }
-{
-    let x = digit_if(k.lane0, b'0', 0);
-    let x = digit_if(k.lane1, b'1', x);
-    let x = digit_if(k.lane2, b'2', x);
-    let x = digit_if(k.lane3, b'3', x);
-    match w {
-        LaneWidth::Half => before(b'h', x),
-        LaneWidth::Byte => before(b'b', x),
-    }
-}
-
 fn mask_piece(w: LaneWidth, d: Word, k: Mask) -> Piece
     ensures { λ m. ⌜ Shows m (maskTree w d k) ⌝ }
 {
@@ -421,21 +390,7 @@ fn mask_piece(w: LaneWidth, d: Word, k: Mask) -> Piece
     }
     Piece {
         front: word_text(d),
-        back: dot(mask_text(w, k)),
-    }
-}
-
-fn digits_text(w: LaneWidth, s: Digits) -> u64
-    ensures { λ m. ⌜ Spells 5 m (digitsName w s) ⌝ }
-{
-    let d0 = digit(s.lane0 as u16);
-    let d1 = digit(s.lane1 as u16);
-    let d2 = digit(s.lane2 as u16);
-    let d3 = digit(s.lane3 as u16);
-    let low = before(d1, d0 as u64);
-    match w {
-        LaneWidth::Half => before(b'h', low),
-        LaneWidth::Byte => before(b'b', before(d3, before(d2, low))),
+        back: dot(masks::mask_number(w, k)),
     }
 }
 
@@ -447,7 +402,7 @@ fn digits_piece(w: LaneWidth, default: Digits, a: Word, s: Digits) -> Piece
     }
     Piece {
         front: word_text(a),
-        back: dot(digits_text(w, s)),
+        back: dot(masks::digits_number(w, s)),
     }
 }
 

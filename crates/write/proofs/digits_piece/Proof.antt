@@ -17,14 +17,14 @@ returns c = rw (← c .before .before .same-digits .ensures, c .before .if1 .tak
 word-text-requires : tie.Need-word-text-requires
 word-text-requires c κs = tt
 
-digits-text-requires : tie.Need-digits-text-requires
-digits-text-requires c κs = tt
+digits-number-requires : tie.Need-digits-number-requires
+digits-number-requires c κs = tt
 
 dot-requires : tie.Need-dot-requires
 dot-requires c κs = search needs
 
 returns-2 : tie.Need-returns-2
-returns-2 c = rw (← c .before .before .before .before .same-digits .ensures, c .before .before .before .if1 .left) (record { first = wider 6 (omega arith) (omega arith) (c .before .before .word-text .ensures); second = rw (c .dot .ensures) (spells-more 46 refl (omega arith) (c .before .digits-text .ensures)) })
+returns-2 c = rw (← c .before .before .before .before .same-digits .ensures, c .before .before .before .if1 .left) (record { first = wider 6 (omega arith) (omega arith) (c .before .before .word-text .ensures); second = rw (c .dot .ensures) (spells-more 46 refl (omega arith) (c .before .digits-number .ensures)) })
 
 pub digits-piece-spec : {M : Type 1} → statement M
 digits-piece-spec =
@@ -34,6 +34,6 @@ digits-piece-spec =
     word-piece-requires
     returns
     word-text-requires
-    digits-text-requires
+    digits-number-requires
     dot-requires
     returns-2)

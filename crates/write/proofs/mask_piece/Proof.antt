@@ -20,14 +20,14 @@ returns c = rw (← c .before .before .before .full-mask .ensures, ← c .before
 word-text-requires : tie.Need-word-text-requires
 word-text-requires c κs = tt
 
-mask-text-requires : tie.Need-mask-text-requires
-mask-text-requires c κs = tt
+mask-number-requires : tie.Need-mask-number-requires
+mask-number-requires c κs = tt
 
 dot-requires : tie.Need-dot-requires
 dot-requires c κs = search needs
 
 returns-2 : tie.Need-returns-2
-returns-2 c = rw (← c .before .before .before .before .before .full-mask .ensures, ← c .before .before .before .before .same-mask .ensures, c .before .before .before .if1 .left) (record { first = wider 6 (omega arith) (omega arith) (c .before .before .word-text .ensures); second = rw (c .dot .ensures) (spells-more 46 refl (omega arith) (c .before .mask-text .ensures)) })
+returns-2 c = rw (← c .before .before .before .before .before .full-mask .ensures, ← c .before .before .before .before .same-mask .ensures, c .before .before .before .if1 .left) (record { first = wider 6 (omega arith) (omega arith) (c .before .before .word-text .ensures); second = rw (c .dot .ensures) (spells-more 46 refl (omega arith) (c .before .mask-number .ensures)) })
 
 pub mask-piece-spec : {M : Type 1} → statement M
 mask-piece-spec =
@@ -38,6 +38,6 @@ mask-piece-spec =
     word-piece-requires
     returns
     word-text-requires
-    mask-text-requires
+    mask-number-requires
     dot-requires
     returns-2)

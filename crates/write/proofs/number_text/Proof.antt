@@ -1,5 +1,5 @@
 use Rattle.base.specs.PackLaws.{wider}
-use Rattle.write.specs.Pieces.{digit-spells, digit-more}
+use Rattle.masks.specs.Numbers.{digit-spells, digit-more}
 use native.Mathlib.Omega.{arith}
 use borrow.Author.Tests.{lt-ltb, le-ltb}
 use borrow.Author.Needs.{needs}

@@ -1,8 +1,8 @@
-use Rattle.fills.proofs.Rules.{tests}
-use Rattle.fills.specs.Selectors.{byteMask}
+use Rattle.masks.proofs.Rules.{tests}
+use Rattle.masks.specs.Masks.{byteMask}
 use borrow.Author.Needs.{needs}
-use Rattle.fills.proofs.byte_mask.Statement.{statement}
-use Rattle.fills.proofs.byte_mask.Tie as tie
+use Rattle.masks.proofs.byte_mask.Statement.{statement}
+use Rattle.masks.proofs.byte_mask.Tie as tie
 
 mask-found-requires : tie.Need-mask-found-requires
 mask-found-requires c κs = search needs

@@ -1,7 +1,7 @@
-use Rattle.fills.specs.Selectors.{digitsIn}
+use Rattle.masks.specs.Masks.{digitsIn}
 use borrow.Author.Needs.{needs}
-use Rattle.fills.proofs.digits_in.Statement.{statement}
-use Rattle.fills.proofs.digits_in.Tie as tie
+use Rattle.masks.proofs.digits_in.Statement.{statement}
+use Rattle.masks.proofs.digits_in.Tie as tie
 
 enum-told : tie.Need-enum-told
 enum-told c = search needs

@@ -1,4 +1,4 @@
--- The code's side of the names of selectors and masks, kept as numbers. No one has to believe it: laws join it to the names.
+-- The code's side of the names of masks and of selectors of vset2 and vset4, kept as numbers. No one has to believe it: laws join it to the names.
 use Prim.Native.Nat.{ℕ, _/_, _%_}
 use mathlib.Core.Bool.{Bool, true, false, cond}
 use mathlib.Core.List.{List, [], _∷_}
@@ -6,29 +6,13 @@ use lib.Dec.{eqb}
 use Rattle.base.specs.Pack.{radix, pack}
 use Rattle.record.specs.declared.LaneWidth.{LaneWidth}
 use Rattle.record.specs.declared.LaneWidth.the-variants.{Half, Byte}
-use Rattle.record.specs.declared.Selector.the-variants.{B0, B1, B2, B3, H0, H1}
 use Rattle.record.specs.declared.Digits.{Digits}
 use Rattle.rules.specs.Names.{digitsName}
 use Rattle.base.specs.Lookup.{lookup}
-use Rattle.fills.specs.declared.SelectorFound
-use Rattle.fills.specs.declared.SelectorFound.{SelectorFound}
-use Rattle.fills.specs.declared.MaskFound
-use Rattle.fills.specs.declared.MaskFound.{MaskFound}
-use Rattle.fills.specs.declared.DigitsFound
-use Rattle.fills.specs.declared.DigitsFound.{DigitsFound}
-
-abbrev pub selectors : List (ℕ × SelectorFound)
-selectors =
-    (6242, SelectorFound.Is B0)
-    ∷ (6370, SelectorFound.Is B1)
-    ∷ (6498, SelectorFound.Is B2)
-    ∷ (6626, SelectorFound.Is B3)
-    ∷ (6248, SelectorFound.Is H0)
-    ∷ (6376, SelectorFound.Is H1)
-    ∷ []
-
-unfoldable pub selectorOf : ℕ → SelectorFound
-selectorOf x = lookup x selectors SelectorFound.Not
+use Rattle.masks.specs.declared.MaskFound
+use Rattle.masks.specs.declared.MaskFound.{MaskFound}
+use Rattle.masks.specs.declared.DigitsFound
+use Rattle.masks.specs.declared.DigitsFound.{DigitsFound}
 
 -- the lanes in the order of a name's digits
 abbrev pub maskFound : Bool → Bool → Bool → Bool → MaskFound

@@ -1,4 +1,4 @@
--- The names of selectors and masks are known by their numbers, each name and no other. Assumes nothing.
+-- The names of masks and of selectors of vset2 and vset4 are known by their numbers, each name and no other. Assumes nothing.
 use Prim.Native.Nat.{ℕ, _+_, _*_, _/_, _%_, _<_, _≤_}
 use native.Mathlib.Omega.{arith}
 use mathlib.Core.Path.{_≡_, refl, sym, ap, _∙_}
@@ -7,27 +7,23 @@ use mathlib.Core.List.{List, [], _∷_, _++_}
 use lib.Dec.{eqb}
 use lib.ListN.{length, length-append}
 use borrow.Author.Tests.{le-leb, lt-leb, leb-true, eq-eqb, eqb-true}
-use Rattle.base.specs.Bytes.{isNameByte, All, none, more}
 use Rattle.base.specs.Pack.{pack, longestName, codeOf}
 use Rattle.record.specs.Operands.{someLane, maskFits, digitsFit}
 use Rattle.record.specs.declared.LaneWidth.{LaneWidth}
 use Rattle.record.specs.declared.LaneWidth.the-variants.{Half, Byte}
-use Rattle.record.specs.declared.Selector.{Selector}
-use Rattle.record.specs.declared.Selector.the-variants.{B0, B1, B2, B3, H0, H1}
 use Rattle.record.specs.declared.Mask.{Mask}
 use Rattle.record.specs.declared.Digits.{Digits}
 use Rattle.rules.specs.Shape.{Name, digit}
-use Rattle.rules.specs.Names.{selectorName, maskName, digitsName}
+use Rattle.rules.specs.Names.{maskName, digitsName}
 use Rattle.rules.specs.Grammar.{GoodName}
+use Rattle.rules.specs.StandardTree.{named, mask-named, digits-named}
 use Rattle.base.specs.PackLaws.{code-known}
 use Rattle.base.specs.Lookup.{found}
-use Rattle.fills.specs.Selectors.{selectors, selectorOf, halfMasks, byteMasks, halfMask, byteMask, maskOf, digitsIn, digitsOf}
-use Rattle.fills.specs.declared.SelectorFound
-use Rattle.fills.specs.declared.SelectorFound.{SelectorFound}
-use Rattle.fills.specs.declared.MaskFound
-use Rattle.fills.specs.declared.MaskFound.{MaskFound}
-use Rattle.fills.specs.declared.DigitsFound
-use Rattle.fills.specs.declared.DigitsFound.{DigitsFound}
+use Rattle.masks.specs.Masks.{halfMasks, byteMasks, halfMask, byteMask, maskOf, digitsIn, digitsOf}
+use Rattle.masks.specs.declared.MaskFound
+use Rattle.masks.specs.declared.MaskFound.{MaskFound}
+use Rattle.masks.specs.declared.DigitsFound
+use Rattle.masks.specs.declared.DigitsFound.{DigitsFound}
 
 -- ==== tests
 
@@ -38,44 +34,6 @@ both false q e = (e, cc)
 
 never : {A : Type 0} → false ≡ true → A
 never e = let z : _≡_ {A = ℕ} 0 1 = cc in absurd (omega arith)
-
--- ==== selectors of scalar video
-
-pub selector-complete : (s : Selector) → selectorOf (codeOf (selectorName s)) ≡ SelectorFound.Is s
-unfolding selectorOf codeOf
-selector-complete B0 = refl
-selector-complete B1 = refl
-selector-complete B2 = refl
-selector-complete B3 = refl
-selector-complete H0 = refl
-selector-complete H1 = refl
-
-abbrev pub SelectorIs : ℕ → SelectorFound → Type 0
-SelectorIs x (SelectorFound.Is s) = x ≡ codeOf (selectorName s)
-SelectorIs x SelectorFound.Not = Unit {0}
-
-pub selector-sound : (x : ℕ) → SelectorIs x (selectorOf x)
-unfolding selectorOf codeOf
-selector-sound x = found SelectorIs SelectorFound.Not selectors (refl, (refl, (refl, (refl, (refl, (refl, tt)))))) x tt
-
-selector-good : (s : Selector) → GoodName (selectorName s)
-selector-good B0 = record { all = more refl (more refl none); some = omega arith }
-selector-good B1 = record { all = more refl (more refl none); some = omega arith }
-selector-good B2 = record { all = more refl (more refl none); some = omega arith }
-selector-good B3 = record { all = more refl (more refl none); some = omega arith }
-selector-good H0 = record { all = more refl (more refl none); some = omega arith }
-selector-good H1 = record { all = more refl (more refl none); some = omega arith }
-
-selector-short : (s : Selector) → length (selectorName s) ≤ longestName
-selector-short B0 = omega arith
-selector-short B1 = omega arith
-selector-short B2 = omega arith
-selector-short B3 = omega arith
-selector-short H0 = omega arith
-selector-short H1 = omega arith
-
-pub selector-known : (s : Selector) (n : Name) → GoodName n → codeOf n ≡ codeOf (selectorName s) → n ≡ selectorName s
-selector-known s n g e = code-known n (selectorName s) g (selector-good s) (selector-short s) e
 
 -- ==== masks
 
@@ -155,61 +113,28 @@ pub mask-sound : (w : LaneWidth) (x : ℕ) → MaskIs w x (maskOf w x)
 mask-sound Half x = half-sound x
 mask-sound Byte x = byte-sound x
 
-all-append : {a b : List ℕ} → All isNameByte a → All isNameByte b → All isNameByte (a ++ b)
-all-append none l = l
-all-append (more p k) l = more p (all-append k l)
-
-shown : (t : Bool) (b : ℕ) → isNameByte b ≡ true → All isNameByte (cond t (b ∷ []) [])
-shown true b e = more e none
-shown false b e = none
-
-at-most-one : (t : Bool) (b : ℕ) → length (cond t (b ∷ []) []) ≤ 1
-at-most-one true b = omega arith
-at-most-one false b = omega arith
-
--- the digits of a mask's name
-abbrev falling : Mask → List ℕ
-falling m = cond (m .lane3) (51 ∷ []) [] ++ cond (m .lane2) (50 ∷ []) [] ++ cond (m .lane1) (49 ∷ []) [] ++ cond (m .lane0) (48 ∷ []) []
-
-falling-good : (m : Mask) → All isNameByte (falling m)
-falling-good m =
-    all-append (all-append (all-append (shown (m .lane3) 51 refl) (shown (m .lane2) 50 refl)) (shown (m .lane1) 49 refl)) (shown (m .lane0) 48 refl)
-
-falling-short : (m : Mask) → length (falling m) ≤ 4
-falling-short m =
-    simp length-append
-    (omega (arith, at-most-one (m .lane3) 51, at-most-one (m .lane2) 50, at-most-one (m .lane1) 49, at-most-one (m .lane0) 48))
-
-mask-good : (w : LaneWidth) (m : Mask) → GoodName (maskName w m)
-mask-good Half m = record { all = more refl (falling-good m); some = omega arith }
-mask-good Byte m = record { all = more refl (falling-good m); some = omega arith }
-
 mask-short : (w : LaneWidth) (m : Mask) → length (maskName w m) ≤ longestName
-mask-short Half m = omega (arith, falling-short m)
-mask-short Byte m = omega (arith, falling-short m)
+mask-short w m = lengthened w (m .lane3) (m .lane2) (m .lane1) (m .lane0)
+  where
+    one : (t : Bool) (b : ℕ) → length (cond t (b ∷ []) []) ≤ 1
+    one true b = omega arith
+    one false b = omega arith
+
+    lengthened : (w : LaneWidth) (l3 l2 l1 l0 : Bool) → length (maskName w (lanes l3 l2 l1 l0)) ≤ longestName
+    lengthened Half l3 l2 l1 l0 = simp length-append (omega (arith, one l3 51, one l2 50, one l1 49, one l0 48))
+    lengthened Byte l3 l2 l1 l0 = simp length-append (omega (arith, one l3 51, one l2 50, one l1 49, one l0 48))
 
 pub mask-known : (w : LaneWidth) (m : Mask) (n : Name) → GoodName n → codeOf n ≡ codeOf (maskName w m) → n ≡ maskName w m
-mask-known w m n g e = code-known n (maskName w m) g (mask-good w m) (mask-short w m) e
+mask-known w m n g e = code-known n (maskName w m) g (named (mask-named w m)) (mask-short w m) e
 
 -- ==== selectors of vset2 and vset4
-
-digit-good : (k : ℕ) → isNameByte (digit k) ≡ true
-digit-good k = rw (lt-leb 97 (digit k) (omega arith), le-leb 48 (digit k) (omega arith), le-leb (digit k) 57 (omega arith))
-
-digits-good : (w : LaneWidth) (s : Digits) → GoodName (digitsName w s)
-digits-good Half s = record { all = more refl (more (digit-good (s .lane1)) (more (digit-good (s .lane0)) none)); some = omega arith }
-digits-good Byte s =
-    record {
-      all = more refl (more (digit-good (s .lane3)) (more (digit-good (s .lane2)) (more (digit-good (s .lane1)) (more (digit-good (s .lane0)) none))));
-      some = omega arith;
-    }
 
 digits-short : (w : LaneWidth) (s : Digits) → length (digitsName w s) ≤ longestName
 digits-short Half s = omega arith
 digits-short Byte s = omega arith
 
 pub digits-known : (w : LaneWidth) (s : Digits) (n : Name) → GoodName n → codeOf n ≡ codeOf (digitsName w s) → n ≡ digitsName w s
-digits-known w s n g e = code-known n (digitsName w s) g (digits-good w s) (digits-short w s) e
+digits-known w s n g e = code-known n (digitsName w s) g (named (digits-named w s)) (digits-short w s) e
 
 digits-pack : (w : LaneWidth) (s : Digits) → codeOf (digitsName w s) ≡ pack (digitsName w s)
 unfolding codeOf

@@ -1,0 +1,2 @@
+mod Rules
+pub mod OneOutcome

@@ -1,0 +1,41 @@
+-- The numbers of digits and of masks' names, made from the last byte on. Assumes nothing.
+use Prim.Native.Nat.{ℕ, suc, _+_, _*_, _≤_}
+use native.Mathlib.Omega.{arith}
+use mathlib.Core.Path.{_≡_, refl}
+use mathlib.Core.Bool.{Bool, true, cond}
+use mathlib.Core.List.{List, [], _∷_, _++_, append-assoc, append-nil}
+use lib.Dec.{ltb}
+use borrow.Author.Tests.{lt-ltb}
+use Rattle.base.specs.Pack.{radix, isPlain, Spells}
+use Rattle.base.specs.PackLaws.{spells-more, spells-maybe, written}
+use Rattle.base.specs.Text.{bytes}
+use Rattle.record.specs.declared.LaneWidth.{LaneWidth}
+use Rattle.record.specs.declared.Mask.{Mask}
+use Rattle.rules.specs.Shape.{digit}
+use Rattle.rules.specs.Names.{laneLetter, maskName}
+
+-- ==== digits
+
+digit-plain : (n : ℕ) → isPlain (digit n) ≡ true
+digit-plain n = rw (lt-ltb 0 (digit n) (omega arith), lt-ltb (digit n) radix (omega arith))
+
+pub digit-spells : (n : ℕ) → Spells 1 (digit n) (digit n ∷ [])
+digit-spells n = record { few = omega arith; code = omega arith; small = omega arith; plain = rw (digit-plain n) refl }
+
+pub digit-more : {k x : ℕ} {w : List ℕ} (n : ℕ) → suc k ≤ 9 → Spells k x w → Spells (suc k) (digit n + radix * x) (digit n ∷ w)
+digit-more n h s = spells-more (digit n) (digit-plain n) h s
+
+-- the digits of the lanes that a mask names, the number made from the last one on
+abbrev lanesText : Mask → List ℕ
+lanesText m = cond (m .lane3) (bytes "3") [] ++ (cond (m .lane2) (bytes "2") [] ++ (cond (m .lane1) (bytes "1") [] ++ (cond (m .lane0) (bytes "0") [] ++ [])))
+
+pub mask-spells : {w x y z : ℕ} (m : Mask) → w ≡ cond (m .lane0) (48 + radix * 0) 0 → x ≡ cond (m .lane1) (49 + radix * w) w
+    → y ≡ cond (m .lane2) (50 + radix * x) x → z ≡ cond (m .lane3) (51 + radix * y) y → Spells 4 z (lanesText m)
+mask-spells m d e f g =
+    spells-maybe (m .lane3) 51 refl (omega arith) g
+    (spells-maybe (m .lane2) 50 refl (omega arith) f
+    (spells-maybe (m .lane1) 49 refl (omega arith) e
+    (spells-maybe (m .lane0) 48 refl (omega arith) d (written 0 [] refl))))
+
+pub mask-name : (w : LaneWidth) (m : Mask) → laneLetter w ++ lanesText m ≡ maskName w m
+mask-name w m = simp (append-assoc, append-nil)

@@ -1,0 +1,772 @@
+/*
+ * cases: prints the data of crates/samples/stdin, as SAMPLES.md lays it down.
+ *
+ *   cases           the data
+ *   cases --count   the data, and on standard error how much of it there is
+ *
+ * It knows which records and runs are worth a look, not what comes of them.
+ */
+#include <inttypes.h>
+#include <stdarg.h>
+#include <stdbool.h>
+#include <stdio.h>
+#include <string.h>
+
+#define COUNT(array) ((unsigned)(sizeof(array) / sizeof(array)[0]))
+
+enum { TYPES = 8, CMPS = 18, CMP6 = 6, FORMS = 10, B32 = 0, F32 = 6, VALUES = 18 };
+
+/* Zeros, subnormals, least normals, ones, the greatest finite, infinities, NaNs; also least and greatest wholes. */
+static const uint64_t WORDS[VALUES] = {
+    0x00000000, 0x80000000, 0x00000001, 0x80000001, 0x007FFFFF, 0x807FFFFF,
+    0x00800000, 0x80800000, 0x3F800000, 0xBF800000, 0x7F7FFFFF, 0x7F800000,
+    0xFF800000, 0x7FC00000, 0x7F800001, 0xFF800001, 0x7FFFFFFF, 0xFFFFFFFF
+};
+static const uint64_t DOUBLES[VALUES] = {
+    0x0000000000000000, 0x8000000000000000, 0x0000000000000001,
+    0x8000000000000001, 0x000FFFFFFFFFFFFF, 0x800FFFFFFFFFFFFF,
+    0x0010000000000000, 0x8010000000000000, 0x3FF0000000000000,
+    0xBFF0000000000000, 0x7FEFFFFFFFFFFFFF, 0x7FF0000000000000,
+    0xFFF0000000000000, 0x7FF8000000000000, 0x7FF0000000000001,
+    0xFFF0000000000001, 0x7FFFFFFFFFFFFFFF, 0xFFFFFFFFFFFFFFFF
+};
+static const uint64_t BITS[] = { 0, 1 };
+
+/* ---- lines of data ---- */
+
+enum { LEGALITY, WRITTEN, EXECUTED, SECTIONS };
+
+static unsigned section;                    /* what the records are printed for */
+static unsigned long records[SECTIONS];
+static unsigned long runs;
+static unsigned value_count;                /* of the last line V */
+static unsigned turn;                       /* counts the records; choices go in turn with it */
+
+/* A record is begun, has tails, and ends. */
+static void begin(const char *format, ...)
+{
+    va_list list;
+    va_start(list, format);
+    fputs("R ", stdout);
+    vprintf(format, list);
+    va_end(list);
+}
+
+static void end(void)
+{
+    putchar('\n');
+    records[section]++;
+    turn++;
+}
+
+static void values(const uint64_t *value, unsigned count)
+{
+    putchar('V');
+    for (unsigned i = 0; i < count; i++)
+        printf(" %" PRIX64, value[i]);
+    putchar('\n');
+    value_count = count;
+}
+
+/* Runs of the last record; `open` registers among the tokens go through the values. */
+static void run(unsigned open, const char *format, ...)
+{
+    va_list list;
+    va_start(list, format);
+    putchar('X');
+    if (*format != '\0')
+        putchar(' ');
+    vprintf(format, list);
+    va_end(list);
+    putchar('\n');
+    runs += open == 0 ? 1 : open == 1 ? value_count : value_count * value_count;
+}
+
+/* A record that is looked at for its legality or its line is also executed on the start values. */
+static void end_and_run(void)
+{
+    end();
+    run(0, "");
+}
+
+/* ---- fields in turn ---- */
+
+static unsigned word(unsigned k)
+{
+    static const unsigned number[] = { 0, 9, 10, 63, 5, 32, 47 };
+    return number[(3 * turn + k) % COUNT(number)];
+}
+
+static unsigned wide_number(unsigned k)
+{
+    static const unsigned number[] = { 0, 9, 10, 31, 4, 16, 23 };
+    return number[(3 * turn + k) % COUNT(number)];
+}
+
+static unsigned predicate(unsigned k)
+{
+    static const unsigned number[] = { 0, 9, 10, 15, 3 };
+    return number[(turn + k) % COUNT(number)];
+}
+
+static bool is_wide(unsigned type) { return type % 2 == 1; }
+
+/* A register of the type's file. */
+static unsigned of_type(unsigned type, unsigned k) { return is_wide(type) ? wide_number(k) : word(k); }
+
+/* No guard, `@`, `@!`. */
+static const char *guard(void)
+{
+    static char text[24];
+    unsigned form = turn % 3;
+    sprintf(text, "%u %u", form, form == 0 ? 0 : predicate(3));
+    return text;
+}
+
+/* ---- tails of records ---- */
+
+/* Form 0 to 5: into a part of d; 6: alone; 7 to 9: with OP2. */
+static void scalar(unsigned types, unsigned form, const unsigned dcab[4], unsigned a_part, unsigned b_part)
+{
+    unsigned kind = form < 6 ? 1 : form == 6 ? 0 : 2;
+    printf(" %u %u %u %u %u %u %u %u %u %u", types & 1, types >> 1 & 1, kind, dcab[0],
+           kind == 1 ? form : kind == 2 ? form - 7 : 0, kind == 0 ? 0 : dcab[1],
+           a_part, dcab[2], b_part, dcab[3]);
+}
+
+static void digits(const unsigned sel[4])
+{
+    for (unsigned i = 0; i < 4; i++)
+        printf(" %u", sel[i]);
+}
+
+/* Lane i takes part first + i * step of the parts of two registers; vset2 has two lanes. */
+static void rising(unsigned lanes, unsigned first, unsigned step)
+{
+    unsigned sel[4] = { 0 };
+    for (unsigned i = 0; i < lanes; i++)
+        sel[i] = (first + i * step) % (2 * lanes);
+    digits(sel);
+}
+
+/* A BoolOp and whether c has `!`: 0 none, then and, or, xor, each without and with. */
+enum { BOOLS = 7 };
+
+static void boolean(unsigned choice, unsigned c)
+{
+    printf(" %u %u %u", (choice + 1) / 2, choice == 0 ? 0 : (choice + 1) % 2, choice == 0 ? 0 : c);
+}
+
+static void sources(unsigned ftz, unsigned type, unsigned a_file, unsigned a, unsigned b_file, unsigned b)
+{
+    printf(" %u %u %u %u %u %u", ftz, type, a_file, a, b_file, b);
+}
+
+/* Sources 0 and 1 of the type's file. */
+static void usual_sources(unsigned ftz, unsigned type)
+{
+    sources(ftz, type, is_wide(type), 0, is_wide(type), 1);
+}
+
+/* CmpOp by stype. */
+static bool compares(unsigned cmp, unsigned type)
+{
+    switch (type / 2) {
+    case 0:  return cmp < 2;
+    case 1:  return cmp < 10;
+    case 2:  return cmp < 6;
+    default: return cmp < 6 || cmp >= 10;
+    }
+}
+
+/* ---- bases: a record of each shape, letters for its register numbers ---- */
+
+typedef struct {
+    const char *guard;
+    const char *fields;
+} Base;
+
+static const Base BASES[] = {
+    { "0 0", "0 1 0 0 0 0 0 d 0 0 6 a 6 b" },               /* vsub */
+    { "0 0", "0 1 0 0 0 0 1 d 2 c 6 a 6 b" },               /* vsub into a part */
+    { "0 0", "0 4 1 1 1 0 2 d 1 c 5 a 0 b" },               /* vmax with sat and OP2 */
+    { "0 0", "1 2 0 0 2 d 0 c 6 a 6 b" },                   /* vset with OP2 */
+    { "0 0", "2 0 5 0 0 0 d 1 a 1 0 0 0 b 2 3 0 0 c" },     /* vset2 */
+    { "0 0", "2 1 5 0 0 1 d 7 a 0 1 2 3 b 4 5 6 7 c" },     /* vset4 with add */
+    { "0 0", "3 0 d 2 1 0 c 0 2 0 a 0 b" },                 /* set */
+    { "0 0", "3 2 d 2 2 1 c 0 7 1 a 1 b" },                 /* set on doubles */
+    { "0 0", "4 0 d 0 2 2 0 c 1 6 0 a 0 b" },               /* setp */
+    { "0 0", "4 2 d 0 3 3 1 c 0 5 1 a 1 b" },               /* setp on doubles */
+    { "0 0", "5 2 0 d 0 a 0 b c" },                         /* selp */
+    { "2 4", "5 3 1 d 1 a 1 b c" },                         /* selp on doubles, guarded */
+    { "0 0", "6 0 2 0 d 0 a 0 b c" },                       /* slct */
+    { "0 0", "6 2 7 1 d 1 a 1 b c" },                       /* slct on doubles */
+};
+
+/* The base with its letters d, a, b, c changed to numbers. */
+static void base(const char *guarded, const Base *of, const unsigned dabc[4])
+{
+    static const char letters[] = "dabc";
+    begin("%s ", guarded);
+    for (const char *p = of->fields; *p != '\0'; p++) {
+        const char *letter = strchr(letters, *p);
+        if (letter != NULL)
+            printf("%u", dabc[letter - letters]);
+        else
+            putchar(*p);
+    }
+    end();
+}
+
+/* ---- legality ---- */
+
+/* set and setp, without and with ftz, by type and comparison */
+static void legality_of_comparisons(void)
+{
+    for (unsigned setp = 0; setp < 2; setp++)
+        for (unsigned ftz = 0; ftz < 2; ftz++)
+            for (unsigned type = 0; type < TYPES; type++)
+                for (unsigned cmp = 0; cmp < CMPS; cmp++) {
+                    begin(setp ? "0 0 4 0 1 0 %u" : "0 0 3 0 3 %u", cmp);
+                    boolean(0, 0);
+                    usual_sources(ftz, type);
+                    end_and_run();
+                }
+}
+
+/* a and b of set and setp from either file, by type, without and with BoolOp */
+static void files_of_comparisons(void)
+{
+    for (unsigned setp = 0; setp < 2; setp++)
+        for (unsigned type = 0; type < TYPES; type++)
+            for (unsigned files = 0; files < 4; files++)
+                for (unsigned choice = 0; choice < 2; choice++) {
+                    begin(setp ? "0 0 4 1 1 4 0" : "0 0 3 0 3 0");
+                    boolean(choice, 2);
+                    sources(0, type, files & 1, 0, files >> 1, 1);
+                    end_and_run();
+                }
+}
+
+/* d, a and b of selp and slct from either file, by type */
+static void files_of_choices(void)
+{
+    for (unsigned slct = 0; slct < 2; slct++)
+        for (unsigned type = 0; type < TYPES; type++)
+            for (unsigned files = 0; files < 8; files++) {
+                begin(slct ? "0 0 6 1 %u" : "0 0 5 %u", type);
+                printf(" %u 3 %u 0 %u 1 2", files & 1, files >> 1 & 1, files >> 2);
+                end_and_run();
+            }
+}
+
+/* every mask of vset2 and vset4, lanes that vset2 has not among them */
+static void masks(void)
+{
+    for (unsigned wide = 0; wide < 2; wide++)
+        for (unsigned mask = 0; mask < 16; mask++) {
+            unsigned lanes = wide ? 4 : 2;
+            begin("0 0 2 %u 0 0 0 0 3 %u 0", wide, mask);
+            rising(lanes, 0, 1);
+            fputs(" 1", stdout);
+            rising(lanes, lanes, 1);
+            fputs(" 2", stdout);
+            end_and_run();
+        }
+}
+
+/* a digit of a selector, in each lane of a or of b; the other operand has its default */
+static void lane_digit(unsigned wide, bool on_b, unsigned lane, unsigned digit)
+{
+    unsigned lanes = wide ? 4 : 2;
+    unsigned sel[4] = { 0 };
+    sel[lane] = digit;
+    begin("0 0 2 %u 3 0 1 0 3 %u 0", wide, wide ? 15 : 3);
+    if (on_b)
+        rising(lanes, 0, 1);
+    else
+        digits(sel);
+    fputs(" 1", stdout);
+    if (on_b)
+        digits(sel);
+    else
+        rising(lanes, lanes, 1);
+    fputs(" 2", stdout);
+    end_and_run();
+}
+
+static void lane_digits(void)
+{
+    static const unsigned great[] = { 10, 255 };
+    for (unsigned at = 0; at < 2 * 2 * 4; at++) {
+        for (unsigned digit = 0; digit < 10; digit++)
+            lane_digit(at / 8, at / 4 % 2, at % 4, digit);
+        for (unsigned i = 0; i < COUNT(great); i++)
+            lane_digit(at / 8, at / 4 % 2, at % 4, great[i]);
+    }
+}
+
+/* register numbers at each operand of each base, and at its guard */
+static void numbers(void)
+{
+    static const unsigned number[] = { 0, 15, 16, 31, 32, 63, 64, 100, 999 };
+    for (unsigned of = 0; of < COUNT(BASES); of++)
+        for (unsigned role = 0; role < 5; role++)
+            for (unsigned i = 0; i < COUNT(number); i++) {
+                unsigned dabc[4] = { 3, 5, 1, 2 };
+                char guarded[24];
+                if (role < 4 && strchr(BASES[of].fields, "dabc"[role]) == NULL)
+                    continue;
+                if (role < 4)
+                    dabc[role] = number[i];
+                sprintf(guarded, "%u %u", 1 + i % 2, number[i]);
+                base(role < 4 ? BASES[of].guard : guarded, &BASES[of], dabc);
+                run(0, "");
+            }
+}
+
+/* destinations of setp: %p|%q, and the other three beside c */
+static void places(void)
+{
+    for (unsigned form = 0; form < 4; form++)
+        for (unsigned one = 13; one <= 17; one++)
+            for (unsigned other = 13; other <= 17; other++) {
+                begin("0 0 4 %u %u %u 2", form, form == 3 ? 0 : one, form == 1 ? other : form == 3 ? one : 0);
+                boolean(2, form == 1 ? 2 : other);
+                usual_sources(0, B32 + 2);
+                end_and_run();
+            }
+}
+
+/* two faults at a time, and faults that only look like some */
+static void mixed(void)
+{
+    static const char *const fields[] = {
+        "1 16 5 2 0 64 0 0 0 1 2",                  /* guard and d */
+        "0 0 4 1 16 16 0 0 0 0 0 2 0 0 0 1",        /* one predicate twice, and over its file */
+        "0 0 4 1 0 0 0 0 0 0 0 2 0 0 0 1",          /* %p0 twice */
+        "0 0 4 1 5 5 2 3 1 5 0 5 1 0 1 1",          /* c as well */
+        "0 0 4 2 0 0 0 0 0 0 0 2 0 0 0 1",          /* %p0|_ is no pair of one predicate */
+        "0 0 4 3 0 0 0 0 0 0 0 2 0 0 0 1",          /* _|%p0 neither */
+        "0 0 3 0 3 2 0 0 0 1 0 0 0 0 1",            /* lt and ftz on b32 */
+        "0 0 3 0 3 0 0 0 0 1 7 1 0 1 1",            /* ftz on f64 */
+        "0 0 2 0 0 0 0 0 3 3 0 0 1 2 3 1 2 3 0 0 2",        /* vset2 with the digits of vset4 on a */
+        "0 0 2 0 0 0 0 0 3 15 0 0 1 2 3 1 4 5 6 7 2",       /* vset4's default record as vset2 */
+        "0 0 2 1 0 0 0 0 3 3 0 0 1 0 0 1 2 3 0 0 2",        /* vset2's default record as vset4 */
+        "0 0 5 3 1 32 1 0 1 1 16",                  /* %rd32 and %p16 */
+        "0 0 5 3 1 31 1 31 1 31 15",                /* the last of each file */
+    };
+    for (unsigned i = 0; i < COUNT(fields); i++) {
+        begin("%s", fields[i]);
+        end_and_run();
+    }
+}
+
+/* ---- written records ---- */
+
+/* scalar arithmetic by opcode and form, twice; types, sat and selectors in turn */
+static void written_scalars(void)
+{
+    for (unsigned at = 0; at < 2 * 5 * FORMS; at++) {
+        const unsigned dcab[4] = { word(0), word(1), word(2), word(3) };
+        begin("%s 0 %u %u %u", guard(), at / FORMS % 5, turn & 1, turn >> 3 & 1);
+        scalar(turn >> 1, at % FORMS, dcab, turn % 7, turn / 3 % 7);
+        end_and_run();
+    }
+}
+
+/* vset by comparison and form */
+static void written_vsets(void)
+{
+    for (unsigned at = 0; at < CMP6 * FORMS; at++) {
+        const unsigned dcab[4] = { word(0), word(1), word(2), word(3) };
+        begin("%s 1 %u", guard(), at / FORMS);
+        scalar(turn, at % FORMS, dcab, turn % 7, turn / 3 % 7);
+        end_and_run();
+    }
+}
+
+/* default of a, default of b, falling digits */
+static void selector_choice(unsigned lanes, unsigned choice)
+{
+    if (choice < 2)
+        rising(lanes, choice * lanes, 1);
+    else
+        rising(lanes, turn, 2 * lanes - 1);
+}
+
+/* vset2 and vset4 by mask and by selectors of a and b */
+static void written_lanes(void)
+{
+    for (unsigned wide = 0; wide < 2; wide++) {
+        unsigned lanes = wide ? 4 : 2;
+        for (unsigned mask = 1; mask < 1u << lanes; mask++)
+            for (unsigned choice = 0; choice < 9; choice++) {
+                begin("%s 2 %u %u %u %u %u %u %u %u", guard(), wide, turn % CMP6, turn / 2 % 2,
+                      turn / 4 % 2, turn / 5 % 2, word(0), mask, word(1));
+                selector_choice(lanes, choice % 3);
+                printf(" %u", word(2));
+                selector_choice(lanes, choice / 3);
+                printf(" %u", word(3));
+                end_and_run();
+            }
+    }
+}
+
+/* set and setp by type and comparison, legal or not, f32 also with ftz; BoolOp and places in turn */
+static void written_comparisons(bool setp)
+{
+    for (unsigned row = 0; row <= TYPES; row++)
+        for (unsigned cmp = 0; cmp < CMPS; cmp++) {
+            unsigned type = row < TYPES ? row : F32;
+            unsigned form = turn % 4;
+            if (setp)
+                begin("%s 4 %u %u %u %u", guard(), form, form == 3 ? 0 : predicate(0),
+                      form % 2 == 1 ? predicate(1) : 0, cmp);
+            else
+                begin("%s 3 %u %u %u", guard(), turn / 3 % 3, word(0), cmp);
+            boolean(turn % BOOLS, predicate(2));
+            sources(row == TYPES, type, is_wide(type), of_type(type, 1), is_wide(type), of_type(type, 2));
+            end_and_run();
+        }
+}
+
+static void written_choice(unsigned type, unsigned c)
+{
+    unsigned file = is_wide(type);
+    printf(" %u %u %u %u %u %u %u %u", type, file, of_type(type, 0), file, of_type(type, 1),
+           file, of_type(type, 2), c);
+    end_and_run();
+}
+
+/* selp by type, twice; slct by type and type of c */
+static void written_choices(void)
+{
+    for (unsigned at = 0; at < 2 * TYPES; at++) {
+        begin("%s 5", guard());
+        written_choice(at % TYPES, predicate(0));
+    }
+    for (unsigned at = 0; at < 3 * TYPES; at++) {
+        begin("%s 6 %u", guard(), at / TYPES);
+        written_choice(at % TYPES, word(3));
+    }
+}
+
+/* the longest line: 68 bytes */
+static void longest(void)
+{
+    begin("2 15 2 1 5 1 0 1 63 14 62 7 7 7 7 61 0 0 0 0 60");
+    end_and_run();
+}
+
+/* ---- runs ---- */
+
+/* the figures of document 01 */
+static void figures(void)
+{
+    static const char *const figure[][2] = {
+        { "2 1 2 1 0 0 3 15 0 0 1 2 3 1 4 5 6 7 2", "r0=80FF0001 r1=2 r2=0" },         /* vset4.s32.u32.lt */
+        { "2 1 2 1 0 0 3 5 0 0 1 2 3 1 4 5 6 7 2", "r0=80FF0001 r1=2 r2=AABBCCDD" },   /* mask .b20 */
+        { "2 1 2 1 0 1 3 15 0 0 1 2 3 1 4 5 6 7 2", "r0=80FF0001 r1=2 r2=FFFFFFFF" },  /* add */
+        { "2 0 5 0 0 0 3 3 0 0 1 0 0 1 2 3 0 0 2", "r0=10002 r1=20002 r2=0" },         /* vset2.u32.u32.ge */
+        { "2 0 5 0 0 0 3 3 0 1 0 0 0 1 2 3 0 0 2", "r0=10002 r1=20002 r2=0" },         /* a .h01 */
+        { "0 0 1 0 1 1 0 3 0 0 6 0 6 1", "r0=7FFFFFFF r1=1" },                         /* vadd all s32 */
+        { "0 0 1 1 1 1 0 3 0 0 6 0 6 1", "r0=7FFFFFFF r1=1" },                         /* sat */
+        { "0 1 0 0 0 0 0 3 0 0 6 0 6 1", "r0=1 r1=2" },                                /* vsub all u32 */
+        { "0 1 0 1 0 0 0 3 0 0 6 0 6 1", "r0=1 r1=2" },                                /* sat */
+        { "0 0 0 0 0 0 1 3 1 2 6 0 6 1", "r0=C8 r1=64 r2=11223344" },                  /* vadd all u32 into .b1 */
+        { "0 0 0 1 0 0 1 3 1 2 6 0 6 1", "r0=C8 r1=64 r2=11223344" },                  /* sat */
+        { "0 2 0 0 1 0 0 3 0 0 6 0 6 1", "r0=80000000 r1=FFFFFFFF" },                  /* vabsdiff.u32.s32.u32 */
+        { "0 2 0 1 1 0 0 3 0 0 6 0 6 1", "r0=80000000 r1=FFFFFFFF" },                  /* sat */
+        { "3 0 3 12 0 0 0 0 6 0 0 0 1", "r0=7FC00000 r1=0" },                          /* set.ltu.u32.f32 */
+        { "3 0 3 2 0 0 0 0 6 0 0 0 1", "r0=7FC00000 r1=0" },                           /* lt */
+        { "3 2 3 0 0 0 0 0 6 0 0 0 1", "r0=80000000 r1=0" },                           /* set.eq.f32.f32 */
+        { "3 0 3 0 0 0 0 0 6 0 0 0 1", "r0=1 r1=80000000" },                           /* set.eq.u32.f32 */
+        { "3 0 3 0 0 0 0 1 6 0 0 0 1", "r0=1 r1=80000000" },                           /* with ftz */
+        { "4 1 1 2 2 1 0 3 0 4 0 0 0 1", "r0=FFFFFFFF r1=0 p1=1 p2=1 p3=0" },          /* setp.lt.and.s32 */
+    };
+    for (unsigned i = 0; i < COUNT(figure); i++) {
+        begin("0 0 %s", figure[i][0]);
+        end();
+        run(0, "%s", figure[i][1]);
+    }
+}
+
+/* set by comparison and setp.eq on all pairs of values; setp with both values before, so that each write shows */
+static void pairs_of_type(unsigned type, unsigned ftz)
+{
+    char file = is_wide(type) ? 'd' : 'r';
+    for (unsigned cmp = 0; cmp < CMPS; cmp++) {
+        if (!compares(cmp, type))
+            continue;
+        begin("0 0 3 0 3 %u", cmp);
+        boolean(0, 0);
+        usual_sources(ftz, type);
+        end();
+        run(2, "%c0 %c1", file, file);
+    }
+    begin("0 0 4 1 1 2 0");
+    boolean(0, 0);
+    usual_sources(ftz, type);
+    end();
+    run(2, "%c0 %c1", file, file);
+    run(2, "%c0 %c1 p1=1 p2=1", file, file);
+}
+
+static void pairs(void)
+{
+    for (unsigned wide = 0; wide < 2; wide++) {
+        values(wide ? DOUBLES : WORDS, VALUES);
+        for (unsigned type = wide; type < TYPES; type += 2)
+            pairs_of_type(type, 0);
+        if (!wide)
+            pairs_of_type(F32, 1);
+    }
+}
+
+/* Runs with t true and false, every c in %p0, and other tokens. */
+static void run_truths(const char *rest)
+{
+    run(1, "r0=FFFFFFFF r1=0 p0%s", rest);
+    run(1, "r0=FFFFFFFF r1=FFFFFFFE p0%s", rest);
+}
+
+/* setp by BoolOp, `!` and destination, which may be c itself */
+static void setp_places(void)
+{
+    static const char *const place[] = {
+        "0 1 0", "1 1 2", "1 0 2", "1 1 0", "2 1 0", "3 0 2", "0 0 0", "2 0 0", "3 0 0", "1 2 1"
+    };
+    values(BITS, COUNT(BITS));
+    for (unsigned choice = 0; choice < BOOLS; choice++)
+        for (unsigned i = 0; i < COUNT(place); i++) {
+            begin("0 0 4 %s 2", place[i]);
+            boolean(choice, 0);
+            usual_sources(0, B32 + 4);
+            end();
+            run_truths("");
+            run_truths(" p1=1 p2=1");
+        }
+}
+
+/* set by BoolOp, `!` and dtype */
+static void set_booleans(void)
+{
+    values(BITS, COUNT(BITS));
+    for (unsigned choice = 0; choice < BOOLS; choice++)
+        for (unsigned dtype = 0; dtype < 3; dtype++) {
+            begin("0 0 3 %u 3 2", dtype);
+            boolean(choice, 0);
+            usual_sources(0, B32 + 4);
+            end();
+            run_truths("");
+        }
+}
+
+static const uint64_t A_WORDS[] = { 0x807F01FF, 0xFFFFFFFF, 0x80000000 };
+
+/* Three pairs of b and c for column k of 30; a goes through three words. */
+static void run_scalar(unsigned k)
+{
+    static const char *const words[] = {
+        "r1=7FFF80FE r2=11223344", "r1=1 r2=0", "r1=7FFFFFFF r2=FFFFFFFF"
+    };
+    run(1, "r0 %s", words[k / 10]);
+}
+
+static const unsigned USUAL[4] = { 3, 2, 0, 1 };    /* d, c, a, b */
+
+/* scalar arithmetic by opcode, types and sat, forms and selectors in turn */
+static void scalar_runs(void)
+{
+    values(A_WORDS, COUNT(A_WORDS));
+    for (unsigned row = 0; row < 80; row++)
+        for (unsigned k = 0; k < 30; k++) {
+            begin("0 0 0 %u %u %u", row / 16, row / 4 % 2, row / 8 % 2);
+            scalar(row % 4, k % FORMS, USUAL, k % 7, k / 3 % 7);
+            end();
+            run_scalar(k);
+        }
+}
+
+/* vset by comparison and types, forms and selectors in turn */
+static void vset_runs(void)
+{
+    values(A_WORDS, COUNT(A_WORDS));
+    for (unsigned row = 0; row < 24; row++)
+        for (unsigned k = 0; k < 30; k++) {
+            begin("0 0 1 %u", row / 4);
+            scalar(row % 4, k % FORMS, USUAL, k % 7, k / 3 % 7);
+            end();
+            run_scalar(k);
+        }
+}
+
+/* vset2 and vset4 by comparison and types; masks, selectors and add in turn */
+static void lane_runs(void)
+{
+    static const uint64_t a_words[] = { 0x80FF0001, 0x7F80FF00 };
+    values(a_words, COUNT(a_words));
+    for (unsigned row = 0; row < 48; row++)
+        for (unsigned k = 0; k < 30; k++) {
+            unsigned lanes = row < 24 ? 2 : 4;
+            begin("0 0 2 %u %u %u %u %u 3 %u 0", row / 24, row / 4 % CMP6, row % 2, row / 2 % 2, k % 2,
+                  lanes == 2 ? k % 3 + 1 : k % 15 + 1);
+            rising(lanes, k, 1);
+            fputs(" 1", stdout);
+            rising(lanes, k / 2 + 4, k % 3 + 1);
+            fputs(" 2", stdout);
+            end();
+            run(1, k < 15 ? "r0 r1=2 r2=AABBCCDD" : "r0 r1=80807F00 r2=FFFFFFFE");
+        }
+}
+
+/* Between As and Bs, by the open register c. */
+static void run_choice(unsigned type, const char *c)
+{
+    if (is_wide(type))
+        run(1, "d0=AAAAAAAAAAAAAAAA d1=BBBBBBBBBBBBBBBB %s", c);
+    else
+        run(1, "r0=AAAAAAAA r1=BBBBBBBB %s", c);
+}
+
+/* slct by type of c, type and value of c */
+static void slct_runs(void)
+{
+    values(WORDS, VALUES);
+    for (unsigned row = 0; row < 3 * TYPES; row++) {
+        unsigned type = row % TYPES, file = is_wide(type);
+        begin("0 0 6 %u %u %u 3 %u 0 %u 1 2", row / TYPES, type, file, file, file);
+        end();
+        run_choice(type, "r2");
+    }
+}
+
+/* selp by type and value of c */
+static void selp_runs(void)
+{
+    values(BITS, COUNT(BITS));
+    for (unsigned type = 0; type < TYPES; type++) {
+        unsigned file = is_wide(type);
+        begin("0 0 5 %u %u 3 %u 0 %u 1 0", type, file, file, file);
+        end();
+        run_choice(type, "p0");
+    }
+}
+
+/* each base with each guard, whose predicate is 0, 1 and 2 */
+static void guards(void)
+{
+    static const uint64_t guard_values[] = { 0, 1, 2 };
+    static const char *const guarded[] = { "0 0", "1 6", "2 6" };
+    static const unsigned dabc[4] = { 3, 5, 1, 2 };
+    values(guard_values, COUNT(guard_values));
+    for (unsigned of = 0; of < COUNT(BASES); of++)
+        for (unsigned i = 0; i < COUNT(guarded); i++) {
+            base(guarded[i], &BASES[of], dabc);
+            run(1, "p6");
+            run(1, "p6 p3=1");
+        }
+    for (unsigned form = 0; form < 3; form++) {
+        begin("%u 0 3 0 3 0 0 0 0", form);
+        usual_sources(0, B32);
+        end();
+        run(1, "r0=7 r1=7 p0");
+    }
+}
+
+/* a destination that is also a source: sources are read first */
+static void same_registers(void)
+{
+    static const unsigned dabc[][4] = {
+        { 1, 1, 2, 3 }, { 1, 2, 1, 3 }, { 1, 2, 3, 1 }, { 1, 1, 1, 2 }, { 1, 1, 1, 1 }, { 2, 1, 1, 1 }
+    };
+    for (unsigned of = 0; of < COUNT(BASES); of++)
+        for (unsigned i = 0; i < COUNT(dabc); i++) {
+            base("0 0", &BASES[of], dabc[i]);
+            run(0, "");
+            run(0, "r1=80FF0001 r2=FFFE0102 d1=8000000000000001 d2=7FF0000000000000");
+            run(0, "r1=80FF0001 r2=FFFE0102 d1=8000000000000001 d2=7FF0000000000000 p1=1");
+        }
+}
+
+/* files of wrong lengths and predicate bytes over 1, on records that run, that are skipped and that are not legal */
+static void files(void)
+{
+    static const char *const wrong[] = {
+        "R63", "R65", "D31", "D33", "P15", "P17", "R0", "D0", "P0", "R0 D0 P0", "R65 D33 P17",
+        "p2=2", "p2=FF", "p3=2", "p6=2", "p6=FF", "p9=2", "p9=FF", "p0=2", "p15=2", "p2=1 p6=1 p15=80",
+        "R63 p2=2", "D33 p9=FF", "P15 p6=2", "P15 p15=2", "P17 p16=2", "P17 p0=FF", "P0 p0=2", "p16=2"
+    };
+    static const char *const guarded[] = { "0 0", "1 6", "2 6", "1 16" };
+    for (unsigned of = 0; of < COUNT(BASES); of++)
+        for (unsigned i = 0; i < COUNT(guarded) + 1; i++) {
+            const unsigned dabc[4] = { 3, i < COUNT(guarded) ? 5 : 64, 1, 2 };
+            base(guarded[i % COUNT(guarded)], &BASES[of], dabc);
+            run(0, "");
+            for (unsigned k = 0; k < COUNT(wrong); k++)
+                run(0, "%s", wrong[k]);
+        }
+}
+
+/* ---- all of it ---- */
+
+static void legality(void)
+{
+    section = LEGALITY;
+    legality_of_comparisons();
+    files_of_comparisons();
+    files_of_choices();
+    masks();
+    lane_digits();
+    numbers();
+    places();
+    mixed();
+}
+
+static void written(void)
+{
+    section = WRITTEN;
+    written_scalars();
+    written_vsets();
+    written_lanes();
+    written_comparisons(false);
+    written_comparisons(true);
+    written_choices();
+    longest();
+}
+
+static void executed(void)
+{
+    section = EXECUTED;
+    figures();
+    pairs();
+    setp_places();
+    set_booleans();
+    scalar_runs();
+    vset_runs();
+    lane_runs();
+    slct_runs();
+    selp_runs();
+    guards();
+    same_registers();
+    files();
+}
+
+int main(int argc, char **argv)
+{
+    bool count = argc == 2 && strcmp(argv[1], "--count") == 0;
+    if (argc > 1 && !count) {
+        fputs("usage: cases [--count]\n", stderr);
+        return 2;
+    }
+    legality();
+    written();
+    executed();
+    if (fflush(stdout) != 0 || ferror(stdout))
+        return 1;
+    if (count)
+        fprintf(stderr, "legality %lu\nwritten %lu\nexecuted %lu\nruns %lu\n",
+                records[LEGALITY], records[WRITTEN], records[EXECUTED], runs);
+    return 0;
+}
