@@ -40,7 +40,8 @@ use Rattle.tree.specs.Seen.{seenOperand, seenOperands}
 use Rattle.tree.specs.Blank.{blank, blankScalar, blankLanes, blankComparison, blankChoice}
 use Rattle.fills.specs.Registers.{bareOperand, conditionOf, destinationOf}
 use Rattle.fills.specs.Fills.{treeAt, selectedOf, scalarOf, maskedOf, lanedOf, lanesOf, comparisonOf, choiceOf, filledOf}
-use Rattle.fills.specs.NameLaws.{both, selector-complete, mask-complete, digits-complete}
+use Rattle.names.specs.Back.{selector-complete}
+use Rattle.masks.specs.MaskLaws.{both, mask-complete, digits-complete}
 use Rattle.fills.specs.declared.OperandFound
 use Rattle.fills.specs.declared.ConditionFound
 use Rattle.fills.specs.declared.DestinationFound

@@ -9,6 +9,7 @@ use lib.ListN.{length, take, getD, replicate}
 use borrow.Author.Tests.{lt-leb, eq-eqb, eqb-true}
 use Rattle.base.specs.Lists.{tab}
 use Rattle.base.specs.Pack.{codeOf}
+use Rattle.base.specs.PackLaws.{short-name, code-known}
 use Rattle.record.specs.Operands.{maskFits, digitsFit, defaultA, defaultB}
 use Rattle.record.specs.declared.Combination.{Combination}
 use Rattle.record.specs.declared.Combination.the-variants.{Alone, With}
@@ -47,9 +48,11 @@ use Rattle.tree.specs.declared.Operands.{Operands}
 use Rattle.tree.specs.declared.Slot.{Slot}
 use Rattle.tree.specs.declared.Tree.{Tree}
 use Rattle.fills.specs.Registers.{bareWord, barePred, bareOperand, conditionOf, destinationOf}
-use Rattle.fills.specs.Selectors.{selectorOf, maskOf, digitsOf}
+use Rattle.names.specs.Back.{selectorOf}
+use Rattle.masks.specs.Masks.{maskOf, digitsOf}
 use Rattle.fills.specs.Fills.{untaken, treeAt, lastBy, partBy, selectedOf, startOf, mergeForm, combineForm, formOf, scalarEnd, scalarBy, scalarOf, maskedBy, maskedOf, lanedBy, lanedOf, lanesWith, lanesBy, lanesOf, combinationOf, comparisonBy, comparisonOf, choiceBy, choiceOf, arithmeticFrom, vsetFrom, lanesFrom, setFrom, setpFrom, predLast, selpFrom, slctFrom, filledOf}
-use Rattle.fills.specs.NameLaws.{SelectorIs, selector-sound, selector-known, MaskIs, mask-sound, mask-known, DigitsIs, digits-sound, digits-known}
+use Rattle.names.specs.Back.{selector-sound}
+use Rattle.masks.specs.MaskLaws.{MaskIs, mask-sound, mask-known, DigitsIs, digits-sound, digits-known}
 use Rattle.fills.specs.declared.WordFound
 use Rattle.fills.specs.declared.WordFound.{WordFound}
 use Rattle.fills.specs.declared.PredFound
@@ -60,12 +63,12 @@ use Rattle.fills.specs.declared.ConditionFound
 use Rattle.fills.specs.declared.ConditionFound.{ConditionFound}
 use Rattle.fills.specs.declared.DestinationFound
 use Rattle.fills.specs.declared.DestinationFound.{DestinationFound}
-use Rattle.fills.specs.declared.SelectorFound
-use Rattle.fills.specs.declared.SelectorFound.{SelectorFound}
-use Rattle.fills.specs.declared.MaskFound
-use Rattle.fills.specs.declared.MaskFound.{MaskFound}
-use Rattle.fills.specs.declared.DigitsFound
-use Rattle.fills.specs.declared.DigitsFound.{DigitsFound}
+use Rattle.names.specs.declared.SelectorName
+use Rattle.names.specs.declared.SelectorName.{SelectorName}
+use Rattle.masks.specs.declared.MaskFound
+use Rattle.masks.specs.declared.MaskFound.{MaskFound}
+use Rattle.masks.specs.declared.DigitsFound
+use Rattle.masks.specs.declared.DigitsFound.{DigitsFound}
 use Rattle.fills.specs.declared.SelectedFound
 use Rattle.fills.specs.declared.SelectedFound.{SelectedFound}
 use Rattle.fills.specs.declared.Start.{Start}
@@ -176,11 +179,14 @@ selected-is (pair q s) g = tt
 selected-is (bare (word n)) g = refl
 selected-is (bare (double n)) g = tt
 selected-is (bare (pred n)) g = tt
-selected-is (part (word n) w) g = go (selectorOf (codeOf w)) (selector-sound (codeOf w))
+selected-is (part (word n) w) g = go (selectorOf (codeOf w)) refl
   where
-    go : (f : SelectorFound) → SelectorIs (codeOf w) f → SelectedIs (part (word n) w) (partBy (WordFound.Is (record { 0 = n })) f)
-    go (SelectorFound.Is s) e = ap (part (word n)) (selector-known s w (g .1) e)
-    go SelectorFound.Not e = tt
+    go : (f : SelectorName) → selectorOf (codeOf w) ≡ f → SelectedIs (part (word n) w) (partBy (WordFound.Is (record { 0 = n })) f)
+    go (SelectorName.Is s) e =
+        let c = selector-sound (codeOf w) s e in
+        let k = short-name (selectorName s) (c .short) in
+        ap (part (word n)) (code-known w (selectorName s) (g .1) (k .0) (k .1) (c .code))
+    go SelectorName.Not e = tt
 selected-is (part (double n) w) g = tt
 selected-is (part (pred n) w) g = tt
 

@@ -36,7 +36,8 @@ use Rattle.tree.specs.declared.Slot.{Slot}
 use Rattle.tree.specs.declared.Tree.{Tree}
 use Rattle.tree.specs.declared.Tree.the-variants as tree
 use Rattle.fills.specs.Registers.{wordOf, bareWord, barePred, bareOperand, conditionOf, destinationOf}
-use Rattle.fills.specs.Selectors.{selectorOf, maskOf, digitsOf}
+use Rattle.names.specs.Back.{selectorOf}
+use Rattle.masks.specs.Masks.{maskOf, digitsOf}
 use Rattle.fills.specs.declared.WordFound
 use Rattle.fills.specs.declared.WordFound.{WordFound}
 use Rattle.fills.specs.declared.PredFound
@@ -47,12 +48,12 @@ use Rattle.fills.specs.declared.ConditionFound
 use Rattle.fills.specs.declared.ConditionFound.{ConditionFound}
 use Rattle.fills.specs.declared.DestinationFound
 use Rattle.fills.specs.declared.DestinationFound.{DestinationFound}
-use Rattle.fills.specs.declared.SelectorFound
-use Rattle.fills.specs.declared.SelectorFound.{SelectorFound}
-use Rattle.fills.specs.declared.MaskFound
-use Rattle.fills.specs.declared.MaskFound.{MaskFound}
-use Rattle.fills.specs.declared.DigitsFound
-use Rattle.fills.specs.declared.DigitsFound.{DigitsFound}
+use Rattle.names.specs.declared.SelectorName
+use Rattle.names.specs.declared.SelectorName.{SelectorName}
+use Rattle.masks.specs.declared.MaskFound
+use Rattle.masks.specs.declared.MaskFound.{MaskFound}
+use Rattle.masks.specs.declared.DigitsFound
+use Rattle.masks.specs.declared.DigitsFound.{DigitsFound}
 use Rattle.fills.specs.declared.SelectedFound
 use Rattle.fills.specs.declared.SelectedFound.{SelectedFound}
 use Rattle.fills.specs.declared.Start.{Start}
@@ -103,9 +104,9 @@ abbrev pub wholeBy : WordFound → SelectedFound
 wholeBy (WordFound.Is w) = SelectedFound.Is (Whole w)
 wholeBy WordFound.Not = SelectedFound.Not
 
-abbrev pub partBy : WordFound → SelectorFound → SelectedFound
-partBy (WordFound.Is w) (SelectorFound.Is s) = SelectedFound.Is (Part w s)
-partBy (WordFound.Is w) SelectorFound.Not = SelectedFound.Not
+abbrev pub partBy : WordFound → SelectorName → SelectedFound
+partBy (WordFound.Is w) (SelectorName.Is s) = SelectedFound.Is (Part w s)
+partBy (WordFound.Is w) SelectorName.Not = SelectedFound.Not
 partBy WordFound.Not s = SelectedFound.Not
 
 abbrev pub selectedOf : Tree → SelectedFound

@@ -32,7 +32,6 @@ use tree::Place;
 use tree::Spot;
 use tree::Tree;
 ghost use mathlib.Core.Path.{_≡_};
-ghost use Rattle.record.specs.Operands.{fullMask};
 ghost use Rattle.fills.specs.Registers.{wordOf, predOf, operandOf, bareWord, barePred, bareOperand, conditionBy, conditionOf, spotBy, spotOf, pairBy, secondBy, spotsBy, oneBy, destinationOf};
 ghost use Rattle.fills.specs.Fills.{treeAt, wholeBy, partBy, selectedOf, startPlain, startCombine, startOf, lastBy, plainForm, mergeForm, combineForm, formOf, scalarBy, scalarEnd, scalarOf, maskedBy, maskedOf, lanedBy, lanedOf, lanesWith, lanesBy, lanesOf, aloneBy, withBy, combinationOf, comparisonBy, comparisonEnd, comparisonOf, choiceBy, choiceOf, arithmeticFrom, vsetFrom, lanesFrom, setFrom, setpFrom, predLast, selpFrom, slctFrom, filledOf};
 
@@ -482,15 +481,6 @@ enum LanesFound {
     Wrong(usize),
 }
 
-fn full_mask(w: LaneWidth) -> MaskFound
-    ensures { λ r. ⌜ r ≡ MaskFound.Is (fullMask w) ⌝ }
-{
-    match w {
-        LaneWidth::Half => mask_found(false, false, true, true),
-        LaneWidth::Byte => mask_found(true, true, true, true),
-    }
-}
-
 fn masked_by(w: WordFound, m: MaskFound) -> MaskedFound
     ensures { λ r. ⌜ r ≡ maskedBy w m ⌝ }
 {
@@ -522,7 +512,7 @@ fn masked_of(w: LaneWidth, t: Tree) -> MaskedFound
     match t {
         Tree::Inverted(_) => MaskedFound::Not,
         Tree::Pair(_, _) => MaskedFound::Not,
-        Tree::Bare(p) => masked_by(word_of(p), full_mask(w)),
+        Tree::Bare(p) => masked_by(word_of(p), MaskFound::Is(record::full_mask(w))),
         Tree::Part(p, x) => masked_by(word_of(p), masks::mask_of(w, x)),
     }
 }

@@ -96,16 +96,13 @@ pub fn run_len(c: Class, s: &[u8]) -> usize
     i
 }
 
-// A name's bytes are the digits of its number.
-const RADIX: u64 = 128;
-
 // Nine digits fit 64 bits.
 const LONGEST_NAME: usize = 9;
 
 fn name_digit(b: u8) -> u64
     ensures { λ r. ⌜ r ≡ b % radix ⌝ }
 {
-    (b as u64) % RADIX
+    (b as u64) % base::RADIX
 }
 
 // The number of a name, its first byte the lowest digit; 0 of one that is longer than any that the bench knows.
@@ -119,7 +116,7 @@ fn code(w: &[u8]) -> u64
     let mut i = w.len();
     while 0 < i {
         i -= 1;
-        number = name_digit(w[i]) + RADIX * number;
+        number = name_digit(w[i]) + base::RADIX * number;
     }
     number
 }

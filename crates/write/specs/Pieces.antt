@@ -1,22 +1,18 @@
 -- The pieces of a line, kept as numbers, and the texts that they put together. Assumes nothing.
-use Prim.Native.Nat.{ℕ, suc, _+_, _*_, _≤_}
+use Prim.Native.Nat.{ℕ, _+_, _*_}
 use native.Mathlib.Omega.{arith}
-use lib.Dec.{ltb}
-use borrow.Author.Tests.{lt-ltb}
 use mathlib.Core.Path.{_≡_, refl, sym, ap, _∙_}
-use mathlib.Core.Bool.{Bool, true, false, _&&_, cond}
+use mathlib.Core.Bool.{Bool, true, false, cond}
 use mathlib.Core.List.{List, [], _∷_, _++_, append-assoc, append-nil}
 use Rattle.base.specs.Text.{bytes}
-use Rattle.base.specs.Pack.{radix, isPlain, unpacked, spelled, Spells}
-use Rattle.base.specs.PackLaws.{unpacked-none, text-of, text-more, spells-more, spells-maybe, written}
+use Rattle.base.specs.Pack.{radix, unpacked, spelled, Spells}
+use Rattle.base.specs.PackLaws.{unpacked-none, text-of, text-more, spells-more, written}
 use Rattle.record.specs.declared.Choice.{Choice}
 use Rattle.record.specs.declared.Condition.{Condition}
 use Rattle.record.specs.declared.Guard.the-variants.{When}
-use Rattle.record.specs.declared.LaneWidth.{LaneWidth}
-use Rattle.record.specs.declared.Mask.{Mask}
 use Rattle.rules.specs.Executing.{operandPlace}
-use Rattle.rules.specs.Shape.{Name, digit, dotted, headText, registerText, spotText, OperandTree, inverted, pair, bare, part, operandText, guardText}
-use Rattle.rules.specs.Names.{when, laneLetter, maskName}
+use Rattle.rules.specs.Shape.{Name, dotted, headText, registerText, spotText, OperandTree, inverted, pair, bare, part, operandText, guardText}
+use Rattle.rules.specs.Names.{when}
 use Rattle.rules.specs.StandardLine.{p, conditionTree, guardPart, further}
 use Rattle.write.specs.declared.Piece.{Piece}
 

@@ -29,7 +29,7 @@ ghost use mathlib.Core.Path.{_≡_};
 ghost use mathlib.Core.List.{_++_};
 ghost use Prim.Native.Nat.{_+_, _*_, _^_, _≤_, _<_};
 ghost use lib.ListN.{length};
-ghost use Rattle.base.specs.Pack.{spelled, Spells};
+ghost use Rattle.base.specs.Pack.{radix, spelled, Spells};
 ghost use Rattle.rules.specs.Executing.{operandPlace, double};
 ghost use Rattle.record.specs.declared.Instruction.the-variants.{Arithmetic, Vset, VsetLanes, Set, Setp, Selp, Slct};
 ghost use Rattle.rules.specs.Shape.{bare, part, numberText, registerText, headText, operandText};
@@ -61,7 +61,7 @@ const TOO_SHORT: u8 = 9;
 // One byte before a text of at most eight.
 fn before(b: u8, x: u64) -> u64
     requires { ⌜ x < 2 ^ 56 ⌝ }
-    ensures { λ m. ⌜ m ≡ b + 128 * x ⌝ }
+    ensures { λ m. ⌜ m ≡ b + radix * x ⌝ }
 {
     (b as u64) + base::RADIX * x
 }

@@ -1,4 +1,5 @@
 use borrow.Author.Needs.{needs}
+use Rattle.names.specs.Back.{selector-is}
 use Rattle.fills.proofs.selected_of.Statement.{statement}
 use Rattle.fills.proofs.selected_of.Tie as tie
 
@@ -42,7 +43,7 @@ returns-4 : tie.Need-returns-4
 returns-4 c =
     simp (
       c .part-by .ensures,
-      c .before .selector-of .ensures,
+      selector-is (c .before .selector-of .ensures),
       c .before .before .word-of2 .ensures,
       c .before .before .before .before .t2 .given .1,
     )
