@@ -38,13 +38,13 @@ use Rattle.rules.specs.StandardLine.{r, p, sameMask, sameDigits, selectedTree, 
 use Rattle.rules.specs.Reading.{OneOf, as-standard, as-written, Spelled, none, more, OperandsSpell, writtenTrees}
 use Rattle.tree.specs.Seen.{seenOperand, seenOperands}
 use Rattle.tree.specs.Blank.{blank, blankScalar, blankLanes, blankComparison, blankChoice}
-use Rattle.fills.specs.Registers.{bareOperand, conditionOf, destinationOf}
+use Rattle.kinds.specs.Registers.{bareOperand, conditionOf, destinationOf}
 use Rattle.fills.specs.Fills.{treeAt, selectedOf, scalarOf, maskedOf, lanedOf, lanesOf, comparisonOf, choiceOf, filledOf}
 use Rattle.names.specs.Back.{selector-complete}
 use Rattle.masks.specs.MaskLaws.{both, mask-complete, digits-complete}
-use Rattle.fills.specs.declared.OperandFound
-use Rattle.fills.specs.declared.ConditionFound
-use Rattle.fills.specs.declared.DestinationFound
+use Rattle.kinds.specs.declared.OperandFound
+use Rattle.kinds.specs.declared.ConditionFound
+use Rattle.kinds.specs.declared.DestinationFound
 use Rattle.fills.specs.declared.SelectedFound
 use Rattle.fills.specs.declared.ScalarFound
 use Rattle.fills.specs.declared.MaskedFound
@@ -52,9 +52,9 @@ use Rattle.fills.specs.declared.LanedFound
 use Rattle.fills.specs.declared.LanesFound
 use Rattle.fills.specs.declared.ComparisonFound
 use Rattle.fills.specs.declared.ChoiceFound
-use Rattle.fills.specs.declared.OperandFound.{OperandFound}
-use Rattle.fills.specs.declared.ConditionFound.{ConditionFound}
-use Rattle.fills.specs.declared.DestinationFound.{DestinationFound}
+use Rattle.kinds.specs.declared.OperandFound.{OperandFound}
+use Rattle.kinds.specs.declared.ConditionFound.{ConditionFound}
+use Rattle.kinds.specs.declared.DestinationFound.{DestinationFound}
 use Rattle.fills.specs.declared.SelectedFound.{SelectedFound}
 use Rattle.fills.specs.declared.ScalarFound.{ScalarFound}
 use Rattle.fills.specs.declared.MaskedFound.{MaskedFound}

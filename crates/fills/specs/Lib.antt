@@ -1,4 +1,3 @@
-pub mod Registers
 pub mod Fills
 pub mod FillComplete
 pub mod FillSound

@@ -1,4 +1,9 @@
 // The operands of a line, taken into the instruction that its head names.
+use kinds::ConditionFound;
+use kinds::DestinationFound;
+use kinds::OperandFound;
+use kinds::PredFound;
+use kinds::WordFound;
 use masks::DigitsFound;
 use masks::MaskFound;
 use names::SelectorName;
@@ -32,7 +37,7 @@ use tree::Place;
 use tree::Spot;
 use tree::Tree;
 ghost use mathlib.Core.Path.{_≡_};
-ghost use Rattle.fills.specs.Registers.{wordOf, predOf, operandOf, bareWord, barePred, bareOperand, conditionBy, conditionOf, spotBy, spotOf, pairBy, secondBy, spotsBy, oneBy, destinationOf};
+ghost use Rattle.kinds.specs.Registers.{wordOf, predOf, operandOf, bareWord, barePred, bareOperand, conditionBy, conditionOf, spotBy, spotOf, pairBy, secondBy, spotsBy, oneBy, destinationOf};
 ghost use Rattle.fills.specs.Fills.{treeAt, wholeBy, partBy, selectedOf, startPlain, startCombine, startOf, lastBy, plainForm, mergeForm, combineForm, formOf, scalarBy, scalarEnd, scalarOf, maskedBy, maskedOf, lanedBy, lanedOf, lanesWith, lanesBy, lanesOf, aloneBy, withBy, combinationOf, comparisonBy, comparisonEnd, comparisonOf, choiceBy, choiceOf, arithmeticFrom, vsetFrom, lanesFrom, setFrom, setpFrom, predLast, selpFrom, slctFrom, filledOf};
 
 // The instruction with the line's operands, or the index of the first operand that is wrong.
@@ -56,195 +61,6 @@ fn tree_at(o: Operands, k: usize) -> Tree
     }
     let s = at[k];
     s.tree
-}
-
-// ---- a register of the kind that the place takes
-
-enum WordFound {
-    Is(Word),
-    Not,
-}
-
-enum PredFound {
-    Is(Pred),
-    Not,
-}
-
-enum OperandFound {
-    Is(Operand),
-    Not,
-}
-
-fn word_of(p: Place) -> WordFound
-    ensures { λ r. ⌜ r ≡ wordOf p ⌝ }
-{
-    match p {
-        Place::Word(w) => WordFound::Is(w),
-        Place::Double(_) => WordFound::Not,
-        Place::Pred(_) => WordFound::Not,
-    }
-}
-
-fn pred_of(p: Place) -> PredFound
-    ensures { λ r. ⌜ r ≡ predOf p ⌝ }
-{
-    match p {
-        Place::Word(_) => PredFound::Not,
-        Place::Double(_) => PredFound::Not,
-        Place::Pred(q) => PredFound::Is(q),
-    }
-}
-
-fn operand_of(p: Place) -> OperandFound
-    ensures { λ r. ⌜ r ≡ operandOf p ⌝ }
-{
-    match p {
-        Place::Word(w) => OperandFound::Is(Operand::Word(w)),
-        Place::Double(d) => OperandFound::Is(Operand::Double(d)),
-        Place::Pred(_) => OperandFound::Not,
-    }
-}
-
-fn bare_word(t: Tree) -> WordFound
-    ensures { λ r. ⌜ r ≡ bareWord t ⌝ }
-{
-    match t {
-        Tree::Inverted(_) => WordFound::Not,
-        Tree::Pair(_, _) => WordFound::Not,
-        Tree::Bare(p) => word_of(p),
-        Tree::Part(_, _) => WordFound::Not,
-    }
-}
-
-fn bare_pred(t: Tree) -> PredFound
-    ensures { λ r. ⌜ r ≡ barePred t ⌝ }
-{
-    match t {
-        Tree::Inverted(_) => PredFound::Not,
-        Tree::Pair(_, _) => PredFound::Not,
-        Tree::Bare(p) => pred_of(p),
-        Tree::Part(_, _) => PredFound::Not,
-    }
-}
-
-fn bare_operand(t: Tree) -> OperandFound
-    ensures { λ r. ⌜ r ≡ bareOperand t ⌝ }
-{
-    match t {
-        Tree::Inverted(_) => OperandFound::Not,
-        Tree::Pair(_, _) => OperandFound::Not,
-        Tree::Bare(p) => operand_of(p),
-        Tree::Part(_, _) => OperandFound::Not,
-    }
-}
-
-// ---- c of set and setp: a predicate with optional `!`
-
-enum ConditionFound {
-    Is(Condition),
-    Not,
-}
-
-fn condition_by(inverted: bool, p: PredFound) -> ConditionFound
-    ensures { λ r. ⌜ r ≡ conditionBy inverted p ⌝ }
-{
-    match p {
-        PredFound::Is(pred) => ConditionFound::Is(Condition { inverted, pred }),
-        PredFound::Not => ConditionFound::Not,
-    }
-}
-
-fn condition_of(t: Tree) -> ConditionFound
-    ensures { λ r. ⌜ r ≡ conditionOf t ⌝ }
-{
-    match t {
-        Tree::Inverted(p) => condition_by(true, pred_of(p)),
-        Tree::Pair(_, _) => ConditionFound::Not,
-        Tree::Bare(p) => condition_by(false, pred_of(p)),
-        Tree::Part(_, _) => ConditionFound::Not,
-    }
-}
-
-// ---- d of setp: one predicate, or a pair of which one may be `_`
-
-enum DestinationFound {
-    Is(Destination),
-    Not,
-}
-
-enum SpotFound {
-    Is(Pred),
-    Dropped,
-    Not,
-}
-
-fn spot_by(p: PredFound) -> SpotFound
-    ensures { λ r. ⌜ r ≡ spotBy p ⌝ }
-{
-    match p {
-        PredFound::Is(q) => SpotFound::Is(q),
-        PredFound::Not => SpotFound::Not,
-    }
-}
-
-fn spot_of(s: Spot) -> SpotFound
-    ensures { λ r. ⌜ r ≡ spotOf s ⌝ }
-{
-    match s {
-        Spot::At(p) => spot_by(pred_of(p)),
-        Spot::Nothing => SpotFound::Dropped,
-    }
-}
-
-fn pair_by(p: Pred, second: SpotFound) -> DestinationFound
-    ensures { λ r. ⌜ r ≡ pairBy p second ⌝ }
-{
-    match second {
-        SpotFound::Is(q) => DestinationFound::Is(Destination::Pair(p, q)),
-        SpotFound::Dropped => DestinationFound::Is(Destination::First(p)),
-        SpotFound::Not => DestinationFound::Not,
-    }
-}
-
-// After `_`: another `_` is wrong.
-fn second_by(second: SpotFound) -> DestinationFound
-    ensures { λ r. ⌜ r ≡ secondBy second ⌝ }
-{
-    match second {
-        SpotFound::Is(q) => DestinationFound::Is(Destination::Second(q)),
-        SpotFound::Dropped => DestinationFound::Not,
-        SpotFound::Not => DestinationFound::Not,
-    }
-}
-
-fn spots_by(first: SpotFound, second: SpotFound) -> DestinationFound
-    ensures { λ r. ⌜ r ≡ spotsBy first second ⌝ }
-{
-    match first {
-        SpotFound::Is(p) => pair_by(p, second),
-        SpotFound::Dropped => second_by(second),
-        SpotFound::Not => DestinationFound::Not,
-    }
-}
-
-fn one_by(p: PredFound) -> DestinationFound
-    ensures { λ r. ⌜ r ≡ oneBy p ⌝ }
-{
-    match p {
-        PredFound::Is(q) => DestinationFound::Is(Destination::One(q)),
-        PredFound::Not => DestinationFound::Not,
-    }
-}
-
-fn destination_of(t: Tree) -> DestinationFound
-    ensures { λ r. ⌜ r ≡ destinationOf t ⌝ }
-{
-    match t {
-        Tree::Inverted(_) => DestinationFound::Not,
-        Tree::Pair(p, q) => spots_by(spot_of(p), spot_of(q)),
-        Tree::Bare(p) => one_by(pred_of(p)),
-        Tree::Part(_, _) => DestinationFound::Not,
-    }
 }
 
 // ---- scalar video
@@ -309,8 +125,8 @@ fn selected_of(t: Tree) -> SelectedFound
     match t {
         Tree::Inverted(_) => SelectedFound::Not,
         Tree::Pair(_, _) => SelectedFound::Not,
-        Tree::Bare(p) => whole_by(word_of(p)),
-        Tree::Part(p, x) => part_by(word_of(p), names::selector_of(x)),
+        Tree::Bare(p) => whole_by(kinds::word_of(p)),
+        Tree::Part(p, x) => part_by(kinds::word_of(p), names::selector_of(x)),
     }
 }
 
@@ -364,7 +180,7 @@ fn last_word(o: Operands) -> LastFound
     ensures { λ r. ⌜ r ≡ lastBy (o .n) (bareWord (treeAt o 3)) ⌝ }
 {
     let n = o.n;
-    last_by(n, bare_word(tree_at(o, 3)))
+    last_by(n, kinds::bare_word(tree_at(o, 3)))
 }
 
 fn plain_form(d: Word, n: usize) -> FormFound
@@ -451,7 +267,7 @@ fn scalar_of(s: Scalar, o: Operands) -> ScalarFound
     let d = start_of(form, selected_of(tree_at(o, 0)));
     let a = selected_of(tree_at(o, 1));
     let b = selected_of(tree_at(o, 2));
-    scalar_by(s, n, d, a, b, bare_word(tree_at(o, 3)))
+    scalar_by(s, n, d, a, b, kinds::bare_word(tree_at(o, 3)))
 }
 
 // ---- vset2, vset4
@@ -512,8 +328,8 @@ fn masked_of(w: LaneWidth, t: Tree) -> MaskedFound
     match t {
         Tree::Inverted(_) => MaskedFound::Not,
         Tree::Pair(_, _) => MaskedFound::Not,
-        Tree::Bare(p) => masked_by(word_of(p), MaskFound::Is(record::full_mask(w))),
-        Tree::Part(p, x) => masked_by(word_of(p), masks::mask_of(w, x)),
+        Tree::Bare(p) => masked_by(kinds::word_of(p), MaskFound::Is(record::full_mask(w))),
+        Tree::Part(p, x) => masked_by(kinds::word_of(p), masks::mask_of(w, x)),
     }
 }
 
@@ -524,8 +340,8 @@ fn laned_of(w: LaneWidth, default: Digits, t: Tree) -> LanedFound
     match t {
         Tree::Inverted(_) => LanedFound::Not,
         Tree::Pair(_, _) => LanedFound::Not,
-        Tree::Bare(p) => laned_by(word_of(p), DigitsFound::Is(default)),
-        Tree::Part(p, x) => laned_by(word_of(p), masks::digits_of(w, x)),
+        Tree::Bare(p) => laned_by(kinds::word_of(p), DigitsFound::Is(default)),
+        Tree::Part(p, x) => laned_by(kinds::word_of(p), masks::digits_of(w, x)),
     }
 }
 
@@ -667,9 +483,9 @@ fn comparison_of(s: Comparison, o: Operands) -> ComparisonFound
 {
     let n = o.n;
     let k = s.combination;
-    let a = bare_operand(tree_at(o, 1));
-    let b = bare_operand(tree_at(o, 2));
-    comparison_by(s, a, b, combination_of(k, n, condition_of(tree_at(o, 3))))
+    let a = kinds::bare_operand(tree_at(o, 1));
+    let b = kinds::bare_operand(tree_at(o, 2));
+    comparison_by(s, a, b, combination_of(k, n, kinds::condition_of(tree_at(o, 3))))
 }
 
 // ---- selp, slct
@@ -703,9 +519,9 @@ fn choice_of(s: Choice, o: Operands) -> ChoiceFound
     ensures { λ r. ⌜ r ≡ choiceOf s o ⌝ }
 {
     let t = s.dtype;
-    let d = bare_operand(tree_at(o, 0));
-    let a = bare_operand(tree_at(o, 1));
-    choice_by(t, d, a, bare_operand(tree_at(o, 2)))
+    let d = kinds::bare_operand(tree_at(o, 0));
+    let a = kinds::bare_operand(tree_at(o, 1));
+    choice_by(t, d, a, kinds::bare_operand(tree_at(o, 2)))
 }
 
 // c of selp, where it is the fourth operand and the last.
@@ -731,20 +547,20 @@ fn pred_last(n: usize, c: PredFound) -> LastPred
 fn first_word(o: Operands) -> WordFound
     ensures { λ r. ⌜ r ≡ bareWord (treeAt o 0) ⌝ }
 {
-    bare_word(tree_at(o, 0))
+    kinds::bare_word(tree_at(o, 0))
 }
 
 fn first_destination(o: Operands) -> DestinationFound
     ensures { λ r. ⌜ r ≡ destinationOf (treeAt o 0) ⌝ }
 {
-    destination_of(tree_at(o, 0))
+    kinds::destination_of(tree_at(o, 0))
 }
 
 fn last_pred(o: Operands) -> LastPred
     ensures { λ r. ⌜ r ≡ predLast (o .n) (barePred (treeAt o 3)) ⌝ }
 {
     let n = o.n;
-    pred_last(n, bare_pred(tree_at(o, 3)))
+    pred_last(n, kinds::bare_pred(tree_at(o, 3)))
 }
 
 fn arithmetic_from(op: Arith, dtype: VideoType, sat: bool, s: ScalarFound) -> Filled

@@ -1,6 +1,6 @@
 use borrow.Author.Needs.{needs}
-use Rattle.fills.proofs.condition_by.Statement.{statement}
-use Rattle.fills.proofs.condition_by.Tie as tie
+use Rattle.kinds.proofs.one_by.Statement.{statement}
+use Rattle.kinds.proofs.one_by.Tie as tie
 
 enum-known-p : tie.Need-enum-known-p
 enum-known-p c = search needs
@@ -16,5 +16,5 @@ returns c =
 returns-2 : tie.Need-returns-2
 returns-2 c = search needs
 
-pub condition-by-spec : {M : Type 1} → statement M
-condition-by-spec = tie.close (tie.spec enum-known-p enum-told returns returns-2)
+pub one-by-spec : {M : Type 1} → statement M
+one-by-spec = tie.close (tie.spec enum-known-p enum-told returns returns-2)

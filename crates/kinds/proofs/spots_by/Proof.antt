@@ -1,6 +1,6 @@
 use borrow.Author.Needs.{needs}
-use Rattle.fills.proofs.spots_by.Statement.{statement}
-use Rattle.fills.proofs.spots_by.Tie as tie
+use Rattle.kinds.proofs.spots_by.Statement.{statement}
+use Rattle.kinds.proofs.spots_by.Tie as tie
 
 enum-known-first : tie.Need-enum-known-first
 enum-known-first c = search needs

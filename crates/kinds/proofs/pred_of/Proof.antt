@@ -1,6 +1,6 @@
 use borrow.Author.Needs.{needs}
-use Rattle.fills.proofs.pred_of.Statement.{statement}
-use Rattle.fills.proofs.pred_of.Tie as tie
+use Rattle.kinds.proofs.pred_of.Statement.{statement}
+use Rattle.kinds.proofs.pred_of.Tie as tie
 
 enum-told : tie.Need-enum-told
 enum-told c = search needs

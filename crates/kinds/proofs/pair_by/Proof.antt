@@ -1,6 +1,6 @@
 use borrow.Author.Needs.{needs}
-use Rattle.fills.proofs.pair_by.Statement.{statement}
-use Rattle.fills.proofs.pair_by.Tie as tie
+use Rattle.kinds.proofs.pair_by.Statement.{statement}
+use Rattle.kinds.proofs.pair_by.Tie as tie
 
 enum-known-second : tie.Need-enum-known-second
 enum-known-second c = search needs

@@ -1,6 +1,6 @@
 use borrow.Author.Needs.{needs}
-use Rattle.fills.proofs.condition_of.Statement.{statement}
-use Rattle.fills.proofs.condition_of.Tie as tie
+use Rattle.kinds.proofs.condition_of.Statement.{statement}
+use Rattle.kinds.proofs.condition_of.Tie as tie
 
 enum-known-t : tie.Need-enum-known-t
 enum-known-t c = search needs

@@ -10,18 +10,18 @@ use Rattle.tree.specs.declared.Spot.{Spot}
 use Rattle.tree.specs.declared.Spot.the-variants as spot
 use Rattle.tree.specs.declared.Tree.{Tree}
 use Rattle.tree.specs.declared.Tree.the-variants as tree
-use Rattle.fills.specs.declared.WordFound
-use Rattle.fills.specs.declared.WordFound.{WordFound}
-use Rattle.fills.specs.declared.PredFound
-use Rattle.fills.specs.declared.PredFound.{PredFound}
-use Rattle.fills.specs.declared.OperandFound
-use Rattle.fills.specs.declared.OperandFound.{OperandFound}
-use Rattle.fills.specs.declared.ConditionFound
-use Rattle.fills.specs.declared.ConditionFound.{ConditionFound}
-use Rattle.fills.specs.declared.SpotFound
-use Rattle.fills.specs.declared.SpotFound.{SpotFound}
-use Rattle.fills.specs.declared.DestinationFound
-use Rattle.fills.specs.declared.DestinationFound.{DestinationFound}
+use Rattle.kinds.specs.declared.WordFound
+use Rattle.kinds.specs.declared.WordFound.{WordFound}
+use Rattle.kinds.specs.declared.PredFound
+use Rattle.kinds.specs.declared.PredFound.{PredFound}
+use Rattle.kinds.specs.declared.OperandFound
+use Rattle.kinds.specs.declared.OperandFound.{OperandFound}
+use Rattle.kinds.specs.declared.ConditionFound
+use Rattle.kinds.specs.declared.ConditionFound.{ConditionFound}
+use Rattle.kinds.specs.declared.SpotFound
+use Rattle.kinds.specs.declared.SpotFound.{SpotFound}
+use Rattle.kinds.specs.declared.DestinationFound
+use Rattle.kinds.specs.declared.DestinationFound.{DestinationFound}
 
 abbrev pub wordOf : Place → WordFound
 wordOf (place.Word w) = WordFound.Is w
