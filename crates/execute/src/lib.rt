@@ -387,7 +387,7 @@ fn first_refusal(illegal: bool, wrong_sizes: bool, wrong_preds: bool) -> u8
 pub fn execute(r: Record, words: &mut [u32], doubles: &mut [u64], preds: &mut [u8]) -> Executed
     ensures { λ x. ⌜ outcome (answerOf x) (files (now (words .exit)) (now (doubles .exit)) (now (preds .exit))) ≡ run r (files (now (words .entry)) (now (doubles .entry)) (now (preds .entry))) ⌝ }
 {
-    let illegal = !record::legal(r);
+    let illegal = !legal::legal(r);
     let wrong_sizes = !sizes_fit(words, doubles, preds);
     let wrong_preds = !preds_fit(preds);
     let n = first_refusal(illegal, wrong_sizes, wrong_preds);

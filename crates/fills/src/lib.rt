@@ -328,7 +328,7 @@ fn masked_of(w: LaneWidth, t: Tree) -> MaskedFound
     match t {
         Tree::Inverted(_) => MaskedFound::Not,
         Tree::Pair(_, _) => MaskedFound::Not,
-        Tree::Bare(p) => masked_by(kinds::word_of(p), MaskFound::Is(record::full_mask(w))),
+        Tree::Bare(p) => masked_by(kinds::word_of(p), MaskFound::Is(fits::full_mask(w))),
         Tree::Part(p, x) => masked_by(kinds::word_of(p), masks::mask_of(w, x)),
     }
 }
@@ -395,8 +395,8 @@ fn lanes_of(l: Lanes, o: Operands) -> LanesFound
 {
     let w = l.width;
     let d = masked_of(w, tree_at(o, 0));
-    let a = laned_of(w, record::default_digits(w, false), tree_at(o, 1));
-    let b = laned_of(w, record::default_digits(w, true), tree_at(o, 2));
+    let a = laned_of(w, fits::default_digits(w, false), tree_at(o, 1));
+    let b = laned_of(w, fits::default_digits(w, true), tree_at(o, 2));
     lanes_by(l, d, a, b, last_word(o))
 }
 

@@ -194,8 +194,8 @@ fn weighed(x: Parts) -> Candidate
     let named = instruction_in(found);
     let filled = fills::fill_in(named, operands);
     let r = record_of(guard, filled_in(filled));
-    let row = has_row(found) & record::modifiers_fit(record_of(guard, named));
-    let fit = guard_good(g) & is_full(filled) & record::operands_fit(r);
+    let row = has_row(found) & fits::modifiers_fit(record_of(guard, named));
+    let fit = guard_good(g) & is_full(filled) & fits::operands_fit(r);
     Candidate {
         spelled: r,
         opcode: has_opcode(found),
@@ -250,8 +250,8 @@ fn stopped(too_long: bool, good: bool, place: usize, c: Candidate) -> Stop
         !c.opcode,
         !c.row,
         !c.fit,
-        !record::numbers_in_range(r),
-        !record::pair_apart(r),
+        !legal::numbers_in_range(r),
+        !legal::pair_apart(r),
     );
     Stop {
         number: number,

@@ -14,7 +14,7 @@ pub(crate) fn say(s: &[u8]) {
 }
 
 fn sign(r: Record) {
-    if record::legal(r) {
+    if legal::legal(r) {
         say(b"+");
     } else {
         say(b"8");

@@ -385,7 +385,7 @@ fn same_digits(s: Digits, t: Digits) -> bool
 fn mask_piece(w: LaneWidth, d: Word, k: Mask) -> Piece
     ensures { λ m. ⌜ Shows m (maskTree w d k) ⌝ }
 {
-    if same_mask(k, record::full_mask(w)) {
+    if same_mask(k, fits::full_mask(w)) {
         return word_piece(d);
     }
     Piece {
@@ -410,8 +410,8 @@ fn lanes_texts(s: Lanes) -> [u64; 8]
     ensures { λ m. ⌜ spelled m ≡ operandsText (lanesTrees s) ⌝ }
 {
     let width = s.width;
-    let asel = record::default_digits(width, false);
-    let bsel = record::default_digits(width, true);
+    let asel = fits::default_digits(width, false);
+    let bsel = fits::default_digits(width, true);
     joined(
         mask_piece(width, s.d, s.mask),
         further(digits_piece(width, asel, s.a, s.asel)),
@@ -618,7 +618,7 @@ fn copy_out(t: Texts, buf: &mut [u8]) -> Written
 pub fn write(x: Record, buf: &mut [u8]) -> Written
     ensures { λ m. ⌜ outcome (answerOf m) (now (buf .exit)) ≡ writing x (now (buf .entry)) ⌝ }
 {
-    if !record::legal(x) {
+    if !legal::legal(x) {
         return Written::Refused(NOT_LEGAL);
     }
     copy_out(line_texts(x), buf)

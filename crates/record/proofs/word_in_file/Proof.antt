@@ -1,9 +1,0 @@
-use borrow.Author.Needs.{needs}
-use Rattle.record.proofs.word_in_file.Statement.{statement}
-use Rattle.record.proofs.word_in_file.Tie as tie
-
-returns : tie.Need-returns
-returns c = search needs
-
-pub word-in-file-spec : {M : Type 1} → statement M
-word-in-file-spec = tie.close (tie.spec returns)
