@@ -1,5 +1,6 @@
-// Reads the corpus on standard input, an answer, a tab and a line to each text line, and prints it with the reader's answers: what comes out has
-// to be the corpus. A byte of a line may be written as \xHH.
+// Reads the corpus on standard input, an answer, a tab and a line to each text line, and prints the entries whose answer is not the reader's own, with that, and
+// how many entries there were. A byte of a line may be written as \xHH.
+use libc::STDIN_FILENO;
 use libc::STDOUT_FILENO;
 use read::Reading;
 use record::Record;
@@ -7,28 +8,11 @@ use write::Written;
 ghost use Prim.Native.Nat.{_≤_};
 ghost use lib.ListN.{length};
 
-// A line under decoding: how many signs of an escape are to come, its value so far, and the bytes.
-struct Line {
-    left: u8,
-    value: u8,
-    n: usize,
-    bytes: [u8; 512],
-}
-
-const ROOM: usize = 512;
+// More than the corpus has.
+const INPUT: usize = 131072;
 
 fn say(s: &[u8]) {
     io::write_all(STDOUT_FILENO, s);
-}
-
-fn say_first(s: &[u8], n: usize) {
-    if n <= s.len() {
-        say(&s[0..n]);
-    }
-}
-
-fn print_number(n: u64) {
-    io::print_decimal(STDOUT_FILENO, n);
 }
 
 // ---- decoding
@@ -37,99 +21,84 @@ fn hex(b: u8) -> u8 {
     if b < b'A' { b % 16 } else { b % 16 + 9 }
 }
 
-fn pushed(l: Line, b: u8) -> Line {
-    let n = l.n;
-    if ROOM <= n {
-        return l;
+// The byte at the front, which stands as itself or as \xHH.
+fn front(s: &[u8]) -> u8 {
+    let b = scan::byte(s, 0);
+    if b != b'\\' {
+        return b;
     }
-    let mut next = l;
-    next.bytes[n] = b;
-    next.n = n + 1;
-    next
+    hex(scan::byte(s, 2)) % 16 * 16 + hex(scan::byte(s, 3)) % 16
 }
 
-fn within(l: Line, left: u8, value: u8) -> Line {
-    let bytes = l.bytes;
-    Line {
-        left: left,
-        value: value,
-        n: l.n,
-        bytes: bytes,
-    }
+// How many bytes of a line there are so far, and how many signs of an escape are still to come.
+struct Decoded {
+    n: usize,
+    left: u8,
 }
 
-// The next sign of an escape: x, then two digits.
-fn escaped(l: Line, b: u8) -> Line {
-    let digit = hex(b) % 16;
-    if l.left == 3 {
-        return within(l, 2, 0);
+fn turn(d: Decoded, s: &[u8], out: &mut [u8]) -> Decoded {
+    if d.left != 0 {
+        return Decoded {
+            n: d.n,
+            left: d.left - 1,
+        };
     }
-    if l.left == 2 {
-        return within(l, 1, digit);
+    let n = text::push(out, d.n, front(s));
+    if scan::byte(s, 0) == b'\\' {
+        return Decoded { n: n, left: 3 };
     }
-    pushed(within(l, 0, 0), l.value % 16 * 16 + digit)
+    Decoded { n: n, left: 0 }
 }
 
-fn turn(l: Line, b: u8) -> Line {
-    if l.left != 0 {
-        return escaped(l, b);
-    }
-    if b == b'\\' {
-        return within(l, 3, 0);
-    }
-    pushed(l, b)
-}
-
-fn decoded(s: &[u8]) -> Line {
-    let mut l = Line {
-        left: 0,
-        value: 0,
-        n: 0,
-        bytes: [0u8; 512],
-    };
+// The bytes of a line into out; how many.
+fn decode(s: &[u8], out: &mut [u8]) -> usize {
+    let mut d = Decoded { n: 0, left: 0 };
     let mut k = 0;
     while k < s.len() {
-        l = turn(l, s[k]);
+        d = turn(d, &s[k..], out);
         k += 1;
     }
-    l
+    d.n
 }
 
-// ---- the answers
+// ---- the reader's answer
 
-fn show_record(r: Record) {
-    let mut buf = [0u8; 160];
-    match write::write(r, &mut buf) {
+// `ok ` and the standard line.
+fn put_record(r: Record, out: &mut [u8]) -> usize {
+    let mut line = [0u8; 72];
+    match write::write(r, &mut line) {
         Written::Length(n) => {
-            say(b"ok ");
-            say_first(&buf, n);
+            let at = text::put(out, 0, b"ok ");
+            text::put(out, at, first(&line, n))
         }
-        Written::Refused(k) => {
-            say(b"not written: ");
-            print_number(k as u64);
-        }
+        Written::Refused(_) => 0,
     }
 }
 
-fn show_answer(s: &[u8], n: usize) {
-    if s.len() < n {
-        return;
-    }
-    let line = &s[0..n];
+// Or the number of the refusal.
+fn put_answer(line: &[u8], out: &mut [u8]) -> usize {
     match read::read(line) {
-        Reading::Record(r) => show_record(r),
-        Reading::Refused(k) => print_number(k as u64),
+        Reading::Record(r) => put_record(r, out),
+        Reading::Refused(k) => text::put_decimal(out, 0, k as u64),
     }
 }
 
-fn show(s: &[u8]) {
-    let l = decoded(s);
-    let bytes = l.bytes;
-    let n = l.n;
-    show_answer(&bytes, n);
-    say(b"\t");
-    say(s);
-    say(b"\n");
+fn first(s: &[u8], n: usize) -> &[u8] {
+    if n <= s.len() { &s[0..n] } else { s }
+}
+
+fn same(a: &[u8], b: &[u8]) -> bool {
+    if a.len() != b.len() {
+        return false;
+    }
+    let mut k = 0;
+    while k < a.len() {
+        if a[k] != scan::byte(b, k) {
+            return false;
+        }
+        k += 1;
+    }
+    true
 }
 
 // ---- the corpus
@@ -149,26 +118,43 @@ fn next(s: &[u8], k: usize, b: u8) -> usize
     i
 }
 
-fn show_entry(s: &[u8]) {
-    let tab = next(s, 0, b'\t');
-    if tab < s.len() {
-        show(&s[tab + 1..]);
+fn judge(wanted: &[u8], got: &[u8], entry: &[u8]) {
+    if same(wanted, got) {
+        return;
+    }
+    say(entry);
+    say(b"\n  the reader: ");
+    say(got);
+    say(b"\n");
+}
+
+fn try_entry(entry: &[u8]) {
+    let mut line = [0u8; 512];
+    let mut answer = [0u8; 80];
+    let tab = next(entry, 0, b'\t');
+    if tab < entry.len() {
+        let n = decode(&entry[tab + 1..], &mut line);
+        let m = put_answer(first(&line, n), &mut answer);
+        judge(&entry[0..tab], first(&answer, m), entry);
     }
 }
 
-fn show_entries(s: &[u8]) {
+// How many entries there are.
+fn try_entries(s: &[u8]) -> u64 {
+    let mut count = 0;
     let mut at = 0;
     while at < s.len() {
         let end = next(s, at, b'\n');
-        show_entry(&s[at..end]);
+        try_entry(&s[at..end]);
+        count = std::num::wrapping_add_u64(count, 1);
         at = end + 1;
     }
+    count
 }
 
 fn main() {
-    let mut input = [0u8; 131072];
-    let n = io::read_full(0, &mut input);
-    if n <= 131072 {
-        show_entries(&input[0..n]);
-    }
+    let mut input = [0u8; INPUT];
+    let n = io::read_full(STDIN_FILENO, &mut input);
+    io::print_decimal(STDOUT_FILENO, try_entries(first(&input, n)));
+    say(b" lines tried\n");
 }
