@@ -14,11 +14,11 @@ pub struct Double(pub u16);
 pub struct Pred(pub u16);
 
 // The sizes of the files, and the widths of what they hold.
-const WORDS: u16 = 64;
+pub const WORDS: u16 = 64;
 
-const DOUBLES: u16 = 32;
+pub const DOUBLES: u16 = 32;
 
-const PREDS: u16 = 16;
+pub const PREDS: u16 = 16;
 
 const WORD_BITS: u8 = 32;
 
