@@ -22,10 +22,8 @@ use record::VideoType;
 use record::Word;
 ghost use mathlib.Core.Path.{_≡_};
 ghost use mathlib.Core.Bool.{cond};
-ghost use Prim.Native.Nat.{_%_};
-ghost use lib.ListN.{getD, set};
-ghost use Rattle.rules.specs.Numbers.{bit, wordSize};
-ghost use Rattle.rules.specs.Executing.{files, wordOf, predOf, operandOf, selectedWord, formC, formD, conditionHolds, combinedOf, testOf, after, sizesFit, predsFit, guardHolds, firstRefusal, outcome, run};
+ghost use lib.ListN.{set};
+ghost use Rattle.rules.specs.Executing.{files, operandOf, selectedWord, formC, formD, conditionHolds, combinedOf, testOf, after, sizesFit, predsFit, guardHolds, outcome, run};
 ghost use Rattle.execute.specs.Answers.{answerOf};
 ghost use Rattle.execute.specs.Mirror.{wordsWith, doublesWith, predsWith, arithmeticWords, vsetWords, lanesWords, setWords, setpPreds, eitherOf, selpValue, slctValue};
 
@@ -36,44 +34,7 @@ pub enum Executed {
     Refused(u8),
 }
 
-// The lengths of the files, and how many values a word has.
-const WORDS: usize = 64;
-
-const DOUBLES: usize = 32;
-
-const PREDS: usize = 16;
-
-const WORD_SIZE: u64 = 4294967296;
-
-// The refusals of executing.
-const NOT_LEGAL: u8 = 8;
-
-const WRONG_SIZES: u8 = 10;
-
-const WRONG_PREDS: u8 = 11;
-
-// ---- registers: no place past the end is read or written
-
-fn get_word(words: &[u32], w: Word) -> u32
-    ensures { λ r. ⌜ r ≡ wordOf (now (words .entry)) w ⌝ }
-{
-    let i = w.0 as usize;
-    if i < words.len() { words[i] } else { 0 }
-}
-
-fn get_double(doubles: &[u64], d: Double) -> u64
-    ensures { λ r. ⌜ r ≡ getD (now (doubles .entry)) (d .0) 0 ⌝ }
-{
-    let i = d.0 as usize;
-    if i < doubles.len() { doubles[i] } else { 0 }
-}
-
-fn get_pred(preds: &[u8], p: Pred) -> u8
-    ensures { λ r. ⌜ r ≡ predOf (now (preds .entry)) p ⌝ }
-{
-    let i = p.0 as usize;
-    if i < preds.len() { preds[i] } else { 0 }
-}
+// ---- registers: no place past the end is written
 
 fn put_word(words: &mut [u32], w: Word, v: u32)
     ensures { λ _. ⌜ now (words .exit) ≡ set (now (words .entry)) (w .0) v ⌝ }
@@ -114,15 +75,9 @@ fn operand(o: Operand, words: &[u32], doubles: &[u64]) -> u64
     ensures { λ r. ⌜ r ≡ operandOf (now (words .entry)) (now (doubles .entry)) o ⌝ }
 {
     match o {
-        Operand::Word(w) => widened(get_word(words, w)),
-        Operand::Double(d) => get_double(doubles, d),
+        Operand::Word(w) => widened(registers::word_at(words, w)),
+        Operand::Double(d) => registers::double_at(doubles, d),
     }
-}
-
-fn low_word(x: u64) -> u32
-    ensures { λ r. ⌜ r ≡ x % wordSize ⌝ }
-{
-    (x % WORD_SIZE) as u32
 }
 
 fn put_operand(o: Operand, v: u64, words: &mut [u32], doubles: &mut [u64])
@@ -130,7 +85,7 @@ fn put_operand(o: Operand, v: u64, words: &mut [u32], doubles: &mut [u64])
     ensures { λ _. ⌜ now (doubles .exit) ≡ doublesWith o v (now (doubles .entry)) ⌝ }
 {
     match o {
-        Operand::Word(w) => put_word(words, w, low_word(v)),
+        Operand::Word(w) => put_word(words, w, registers::low_word(v)),
         Operand::Double(d) => put_double(doubles, d, v),
     }
 }
@@ -151,8 +106,8 @@ fn form_c(f: Form, words: &[u32]) -> u32
 {
     match f {
         Form::Plain { .. } => 0,
-        Form::Merge { c, .. } => get_word(words, c),
-        Form::Combine { c, .. } => get_word(words, c),
+        Form::Merge { c, .. } => registers::word_at(words, c),
+        Form::Combine { c, .. } => registers::word_at(words, c),
     }
 }
 
@@ -172,8 +127,8 @@ fn do_arithmetic(op: Arith, dtype: VideoType, sat: bool, s: Scalar, words: &mut 
     let sa = s.a;
     let sb = s.b;
     let f = s.form;
-    let a = get_word(words, selected_word(sa));
-    let b = get_word(words, selected_word(sb));
+    let a = registers::word_at(words, selected_word(sa));
+    let b = registers::word_at(words, selected_word(sb));
     let c = form_c(f, words);
     put_word(
         words,
@@ -188,8 +143,8 @@ fn do_vset(cmp: Cmp6, s: Scalar, words: &mut [u32])
     let sa = s.a;
     let sb = s.b;
     let f = s.form;
-    let a = get_word(words, selected_word(sa));
-    let b = get_word(words, selected_word(sb));
+    let a = registers::word_at(words, selected_word(sa));
+    let b = registers::word_at(words, selected_word(sb));
     let c = form_c(f, words);
     put_word(words, form_d(f), video::vset(cmp, s, a, b, c));
 }
@@ -197,9 +152,9 @@ fn do_vset(cmp: Cmp6, s: Scalar, words: &mut [u32])
 fn do_lanes(cmp: Cmp6, l: Lanes, words: &mut [u32])
     ensures { λ _. ⌜ now (words .exit) ≡ lanesWords cmp l (now (words .entry)) ⌝ }
 {
-    let a = get_word(words, l.a);
-    let b = get_word(words, l.b);
-    let c = get_word(words, l.c);
+    let a = registers::word_at(words, l.a);
+    let b = registers::word_at(words, l.b);
+    let c = registers::word_at(words, l.c);
     put_word(words, l.d, video::vset_lanes(cmp, l, a, b, c));
 }
 
@@ -208,7 +163,7 @@ fn do_lanes(cmp: Cmp6, l: Lanes, words: &mut [u32])
 fn condition_holds(c: Condition, preds: &[u8]) -> bool
     ensures { λ r. ⌜ r ≡ conditionHolds (now (preds .entry)) c ⌝ }
 {
-    c.inverted ^ (get_pred(preds, c.pred) == 1)
+    c.inverted ^ (registers::pred_at(preds, c.pred) == 1)
 }
 
 fn combined(c: Combination, t: bool, preds: &[u8]) -> bool
@@ -244,17 +199,11 @@ fn do_set(dtype: SetType, d: Word, s: Comparison, words: &mut [u32], doubles: &[
     );
 }
 
-fn bit_of(t: bool) -> u8
-    ensures { λ r. ⌜ r ≡ bit t ⌝ }
-{
-    if t { 1 } else { 0 }
-}
-
 fn put_destination(d: Destination, first: bool, second: bool, preds: &mut [u8])
     ensures { λ _. ⌜ now (preds .exit) ≡ predsWith d first second (now (preds .entry)) ⌝ }
 {
-    let x = bit_of(first);
-    let y = bit_of(second);
+    let x = registers::bit_of(first) as u8;
+    let y = registers::bit_of(second) as u8;
     match d {
         Destination::One(p) => put_pred(preds, p, x),
         Destination::Pair(p, q) => {
@@ -300,7 +249,7 @@ fn do_selp(c: Pred, s: Choice, words: &mut [u32], doubles: &mut [u64], preds: &[
     ensures { λ _. ⌜ now (words .exit) ≡ wordsWith (s .d) (selpValue c s (now (words .entry)) (now (doubles .entry)) (now (preds .entry))) (now (words .entry)) ⌝ }
     ensures { λ _. ⌜ now (doubles .exit) ≡ doublesWith (s .d) (selpValue c s (now (words .entry)) (now (doubles .entry)) (now (preds .entry))) (now (doubles .entry)) ⌝ }
 {
-    let first = get_pred(preds, c) == 1;
+    let first = registers::pred_at(preds, c) == 1;
     do_choice(first, s, words, doubles);
 }
 
@@ -308,7 +257,7 @@ fn do_slct(ctype: SlctType, c: Word, s: Choice, words: &mut [u32], doubles: &mut
     ensures { λ _. ⌜ now (words .exit) ≡ wordsWith (s .d) (slctValue ctype c s (now (words .entry)) (now (doubles .entry))) (now (words .entry)) ⌝ }
     ensures { λ _. ⌜ now (doubles .exit) ≡ doublesWith (s .d) (slctValue ctype c s (now (words .entry)) (now (doubles .entry))) (now (doubles .entry)) ⌝ }
 {
-    let first = compare::not_below_zero(ctype, get_word(words, c));
+    let first = compare::not_below_zero(ctype, registers::word_at(words, c));
     do_choice(first, s, words, doubles);
 }
 
@@ -342,7 +291,9 @@ fn perform(i: Instruction, words: &mut [u32], doubles: &mut [u64], preds: &mut [
 fn sizes_fit(words: &[u32], doubles: &[u64], preds: &[u8]) -> bool
     ensures { λ r. ⌜ r ≡ sizesFit (files (now (words .entry)) (now (doubles .entry)) (now (preds .entry))) ⌝ }
 {
-    (words.len() == WORDS) & (doubles.len() == DOUBLES) & (preds.len() == PREDS)
+    (words.len() == record::WORDS as usize)
+        & (doubles.len() == record::DOUBLES as usize)
+        & (preds.len() == record::PREDS as usize)
 }
 
 fn preds_fit(preds: &[u8]) -> bool
@@ -367,22 +318,6 @@ fn guard_holds(g: Guard, preds: &[u8]) -> bool
     }
 }
 
-// The first refusal that applies, 0 where none does.
-fn first_refusal(illegal: bool, wrong_sizes: bool, wrong_preds: bool) -> u8
-    ensures { λ r. ⌜ r ≡ firstRefusal illegal «wrong_sizes» «wrong_preds» ⌝ }
-{
-    if illegal {
-        return NOT_LEGAL;
-    }
-    if wrong_sizes {
-        return WRONG_SIZES;
-    }
-    if wrong_preds {
-        return WRONG_PREDS;
-    }
-    0
-}
-
 // Executes the record on the lent files. A refusal or a false guard changes nothing.
 pub fn execute(r: Record, words: &mut [u32], doubles: &mut [u64], preds: &mut [u8]) -> Executed
     ensures { λ x. ⌜ outcome (answerOf x) (files (now (words .exit)) (now (doubles .exit)) (now (preds .exit))) ≡ run r (files (now (words .entry)) (now (doubles .entry)) (now (preds .entry))) ⌝ }
@@ -390,7 +325,7 @@ pub fn execute(r: Record, words: &mut [u32], doubles: &mut [u64], preds: &mut [u
     let illegal = !record::legal(r);
     let wrong_sizes = !sizes_fit(words, doubles, preds);
     let wrong_preds = !preds_fit(preds);
-    let n = first_refusal(illegal, wrong_sizes, wrong_preds);
+    let n = refusals::executing(illegal, wrong_sizes, wrong_preds);
     if n != 0 {
         return Executed::Refused(n);
     }

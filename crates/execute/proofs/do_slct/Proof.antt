@@ -2,8 +2,8 @@ use borrow.Author.Needs.{needs}
 use Rattle.execute.proofs.do_slct.Statement.{statement}
 use Rattle.execute.proofs.do_slct.Tie as tie
 
-get-word-requires : tie.Need-get-word-requires
-get-word-requires c κs = search needs
+word-at-requires : tie.Need-word-at-requires
+word-at-requires c κs = search needs
 
 not-below-zero-requires : tie.Need-not-below-zero-requires
 not-below-zero-requires c κs = search needs
@@ -22,12 +22,12 @@ returns c = (
   simp (
     c .before .before .before .before .do-choice .ensures .0,
     c .before .before .before .before .before .before .before .not-below-zero .ensures,
-    c .before .before .before .before .before .before .before .before .get-word .ensures,
+    c .before .before .before .before .before .before .before .before .word-at .ensures,
   ),
   simp (
     c .before .before .before .before .do-choice .ensures .1,
     c .before .before .before .before .before .before .before .not-below-zero .ensures,
-    c .before .before .before .before .before .before .before .before .get-word .ensures,
+    c .before .before .before .before .before .before .before .before .word-at .ensures,
   ),
 )
 
@@ -35,7 +35,7 @@ pub do-slct-spec : {M : Type 1} → statement M
 do-slct-spec =
     tie.close
     (tie.spec
-    get-word-requires
+    word-at-requires
     not-below-zero-requires
     do-choice-requires
     same-length

@@ -24,8 +24,8 @@ sizes-fit-requires c κs = search needs
 preds-fit-requires : tie.Need-preds-fit-requires
 preds-fit-requires c κs = search needs
 
-first-refusal-requires : tie.Need-first-refusal-requires
-first-refusal-requires c κs = search needs
+executing-requires : tie.Need-executing-requires
+executing-requires c κs = search needs
 
 same-length : tie.Need-same-length
 same-length c = search needs
@@ -39,7 +39,7 @@ same-length-3 c = search needs
 returns : tie.Need-returns
 returns c =
     ends-refused _ _ _
-    (simp (c .before .first-refusal .ensures, c .before .before .preds-fit .ensures, c .before .before .before .before .sizes-fit .ensures, c .before .before .before .before .before .before .before .before .legal .ensures))
+    (simp (c .before .executing .ensures, c .before .before .preds-fit .ensures, c .before .before .before .before .sizes-fit .ensures, c .before .before .before .before .before .before .before .before .legal .ensures))
     (c .if1 .taken)
 
 guard-holds-requires : tie.Need-guard-holds-requires
@@ -57,7 +57,7 @@ same-length-6 c = search needs
 returns-2 : tie.Need-returns-2
 returns-2 c =
     ends-skipped _ _ _
-    (simp (c .before .before .before .before .first-refusal .ensures, c .before .before .before .before .before .preds-fit .ensures, c .before .before .before .before .before .before .before .sizes-fit .ensures, c .before .before .before .before .before .before .before .before .before .before .before .legal .ensures))
+    (simp (c .before .before .before .before .executing .ensures, c .before .before .before .before .before .preds-fit .ensures, c .before .before .before .before .before .before .before .sizes-fit .ensures, c .before .before .before .before .before .before .before .before .before .before .before .legal .ensures))
     (c .before .before .before .if1 .left)
     (failed (c .before .guard-holds .ensures) (c .if2 .taken))
 
@@ -76,7 +76,7 @@ same-length-9 c = search needs
 returns-3 : tie.Need-returns-3
 returns-3 c =
     ends-done _ _ _
-    (simp (c .before .before .before .before .before .before .before .before .before .before .before .before .before .before .first-refusal .ensures, c .before .before .before .before .before .before .before .before .before .before .before .before .before .before .before .preds-fit .ensures, c .before .before .before .before .before .before .before .before .before .before .before .before .before .before .before .before .before .sizes-fit .ensures, c .before .before .before .before .before .before .before .before .before .before .before .before .before .before .before .before .before .before .before .before .before .legal .ensures))
+    (simp (c .before .before .before .before .before .before .before .before .before .before .before .before .before .before .executing .ensures, c .before .before .before .before .before .before .before .before .before .before .before .before .before .before .before .preds-fit .ensures, c .before .before .before .before .before .before .before .before .before .before .before .before .before .before .before .before .before .sizes-fit .ensures, c .before .before .before .before .before .before .before .before .before .before .before .before .before .before .before .before .before .before .before .before .before .legal .ensures))
     (c .before .before .before .before .before .before .before .before .before .before .before .before .before .if1 .left)
     (passed (c .before .before .before .before .before .before .before .before .before .before .before .guard-holds .ensures) (c .before .before .before .before .before .before .before .before .before .before .if2 .left))
     (c .before .before .before .before .before .before .perform .ensures)
@@ -88,7 +88,7 @@ execute-spec =
     legal-requires
     sizes-fit-requires
     preds-fit-requires
-    first-refusal-requires
+    executing-requires
     same-length
     same-length-2
     same-length-3
