@@ -7,10 +7,10 @@ use record::CmpU;
 use record::DataType;
 use record::SetType;
 use record::SlctType;
+use registers::WORD_SIZE;
 ghost use mathlib.Core.Path.{_≡_};
-ghost use Prim.Native.Nat.{_%_, _^_, _≤_};
+ghost use Prim.Native.Nat.{_^_, _≤_};
 ghost use lib.Ieee.{binary32, binary64, ofBits, isNan};
-ghost use Rattle.rules.specs.Numbers.{wordSize};
 ghost use Rattle.rules.specs.Execution.{flushed, floatHolds, comparisonOf, boolOf, trueOf, setOf, notBelowZero};
 ghost use Rattle.compare.specs.Mirror.{movedOf, comparedOf, sixFrom, unsignedFrom, wholeFrom, orderedFrom, unorderedFrom, floatFrom, wholesHold, comparedHold};
 
@@ -23,9 +23,7 @@ pub enum Compared {
 
 // ---- the bits of a register as a value
 
-// How many values a word has, and half of that; half of a double's.
-const WORD_SIZE: u64 = 4294967296;
-
+// Half as many values as a word has, and as a double has.
 const HALF_OF_WORDS: u64 = 2147483648;
 
 const HALF_OF_DOUBLES: u64 = 9223372036854775808;
@@ -83,12 +81,6 @@ fn double(bits: u64) -> f64
     }
 }
 
-fn low_word(x: u64) -> u32
-    ensures { λ r. ⌜ r ≡ x % wordSize ⌝ }
-{
-    (x % WORD_SIZE) as u32
-}
-
 // A type of 32 bits looks at the low 32.
 fn value(t: DataType, ftz: bool, x: u64) -> Compared
     ensures { λ r. ⌜ r ≡ comparedOf t ftz x ⌝ }
@@ -101,7 +93,7 @@ fn value(t: DataType, ftz: bool, x: u64) -> Compared
         DataType::U64 => Compared::Whole(x),
         DataType::S32 => Compared::Whole(moved(HALF_OF_WORDS, low)),
         DataType::S64 => Compared::Whole(moved(HALF_OF_DOUBLES, x)),
-        DataType::F32 => Compared::Single(single(flush(ftz, low_word(x)))),
+        DataType::F32 => Compared::Single(single(flush(ftz, registers::low_word(x)))),
         DataType::F64 => Compared::Double(double(x)),
     }
 }

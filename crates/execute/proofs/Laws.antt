@@ -13,23 +13,37 @@ use Rattle.record.specs.declared.Destination.{Destination}
 use Rattle.record.specs.declared.Destination.the-variants.{One, Pair, First, Second}
 use Rattle.record.specs.declared.Operand
 use Rattle.record.specs.declared.Operand.{Operand}
+use Rattle.record.specs.declared.Instruction.{Instruction}
+use Rattle.record.specs.declared.Instruction.the-variants.{Arithmetic, Vset, VsetLanes, Set, Setp, Selp, Slct}
 use Rattle.record.specs.declared.Record.{Record}
-use Rattle.rules.specs.Executing.{Files, files, operandPlace, kept, destinationWrites, put, putAll, after, sizesFit, predsFit, guardHolds, firstRefusal, done, skipped, refused, outcome, run}
-use Rattle.execute.specs.Mirror.{wordsWith, doublesWith, predsWith}
+use Rattle.rules.specs.Executing.{Files, operandPlace, kept, destinationWrites, writes, put, putAll, after, sizesFit, predsFit, guardHolds, firstRefusal, done, skipped, refused, outcome, run}
+use Rattle.execute.specs.Mirror.{operandWrite, writeOf, predsWith, written}
+use Rattle.execute.specs.declared.Write
+use Rattle.execute.specs.declared.Write.{Write}
 
 -- ---- writes
 
-pub operand-put : (o : Operand) (v : ℕ) (ws ds ps : List ℕ) → files (wordsWith o v ws) (doublesWith o v ds) ps ≡ put (operandPlace o) (kept o v) (files ws ds ps)
-unfolding wordsWith doublesWith
-operand-put (Operand.Word w) v ws ds ps = refl
-operand-put (Operand.Double d) v ws ds ps = refl
+operand-written : (o : Operand) (v : ℕ) (f : Files) → written (operandWrite o v) f ≡ put (operandPlace o) (kept o v) f
+unfolding operandWrite written
+operand-written (Operand.Word w) v f = refl
+operand-written (Operand.Double d) v f = refl
 
-pub destination-put : (d : Destination) (p q : Bool) (ws ds ps : List ℕ) → files ws ds (predsWith d p q ps) ≡ putAll (destinationWrites d p q) (files ws ds ps)
-unfolding predsWith
-destination-put (One a) p q ws ds ps = refl
-destination-put (Pair a b) p q ws ds ps = refl
-destination-put (First a) p q ws ds ps = refl
-destination-put (Second b) p q ws ds ps = refl
+destination-written : (d : Destination) (p q : Bool) (f : Files) → written (Write.Preds d p q) f ≡ putAll (destinationWrites d p q) f
+unfolding written predsWith
+destination-written (One a) p q f = refl
+destination-written (Pair a b) p q f = refl
+destination-written (First a) p q f = refl
+destination-written (Second b) p q f = refl
+
+pub instruction-written : (i : Instruction) (f : Files) → written (writeOf i (f .words) (f .doubles) (f .preds)) f ≡ after i f
+unfolding writeOf written after writes
+instruction-written (Arithmetic op dtype sat s) f = refl
+instruction-written (Vset cmp s) f = refl
+instruction-written (VsetLanes cmp l) f = refl
+instruction-written (Set dtype d s) f = refl
+instruction-written (Setp d s) f = destination-written d _ _ f
+instruction-written (Selp s c) f = operand-written (s .d) _ f
+instruction-written (Slct ctype s c) f = operand-written (s .d) _ f
 
 -- ---- predicates from i on: the first is seen, or none is left
 

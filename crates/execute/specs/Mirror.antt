@@ -1,4 +1,4 @@
--- The code's side of executing: what each file holds after a write. Laws join it to the rules.
+-- The code's side of executing: what an instruction writes, and what the files hold after it. Laws join it to the rules.
 use Prim.Native.Nat.{ℕ, _%_}
 use mathlib.Core.Bool.{Bool, not, cond}
 use mathlib.Core.List.{List}
@@ -18,18 +18,59 @@ use Rattle.record.specs.declared.Destination.{Destination}
 use Rattle.record.specs.declared.Destination.the-variants.{One, Pair, First, Second}
 use Rattle.record.specs.declared.Operand
 use Rattle.record.specs.declared.Operand.{Operand}
+use Rattle.record.specs.declared.Instruction.{Instruction}
+use Rattle.record.specs.declared.Instruction.the-variants.{Arithmetic, Vset, VsetLanes, Set, Setp, Selp, Slct}
 use Rattle.rules.specs.Numbers.{bit, wordSize}
 use Rattle.rules.specs.Execution.{arithmeticOf, vsetOf, lanesOf, setOf, selpOf, slctOf}
-use Rattle.rules.specs.Executing.{wordOf, predOf, operandOf, selectedWord, formC, formD, combinedOf, testOf}
+use Rattle.rules.specs.Executing.{Files, files, wordOf, predOf, operandOf, selectedWord, formC, formD, combinedOf, testOf}
+use Rattle.execute.specs.declared.Write
+use Rattle.execute.specs.declared.Write.{Write}
 
--- a word or a double gets v
-unfoldable pub wordsWith : Operand → ℕ → List ℕ → List ℕ
-wordsWith (Operand.Word w) v words = set words (w .0) (v % wordSize)
-wordsWith (Operand.Double d) v words = words
+-- ---- what each kind of instruction writes
 
-unfoldable pub doublesWith : Operand → ℕ → List ℕ → List ℕ
-doublesWith (Operand.Word w) v doubles = doubles
-doublesWith (Operand.Double d) v doubles = set doubles (d .0) v
+unfoldable pub operandWrite : Operand → ℕ → Write
+operandWrite (Operand.Word w) v = Write.Word w (v % wordSize)
+operandWrite (Operand.Double d) v = Write.Double d v
+
+abbrev pub arithmeticWrite : Arith → VideoType → Bool → Scalar → List ℕ → Write
+arithmeticWrite op dtype sat s words =
+    Write.Word (formD (s .form))
+    (arithmeticOf op dtype sat s (wordOf words (selectedWord (s .a))) (wordOf words (selectedWord (s .b))) (formC words (s .form)))
+
+abbrev pub vsetWrite : Cmp6 → Scalar → List ℕ → Write
+vsetWrite cmp s words =
+    Write.Word (formD (s .form)) (vsetOf cmp s (wordOf words (selectedWord (s .a))) (wordOf words (selectedWord (s .b))) (formC words (s .form)))
+
+abbrev pub lanesWrite : Cmp6 → Lanes → List ℕ → Write
+lanesWrite cmp l words = Write.Word (l .d) (lanesOf cmp l (wordOf words (l .a)) (wordOf words (l .b)) (wordOf words (l .c)))
+
+abbrev pub setWrite : SetType → Word → Comparison → List ℕ → List ℕ → List ℕ → Write
+setWrite dtype d s words doubles preds = Write.Word d (setOf dtype (combinedOf preds (s .combination) (testOf words doubles s)))
+
+abbrev pub setpWrite : Destination → Comparison → List ℕ → List ℕ → List ℕ → Write
+setpWrite d s words doubles preds =
+    Write.Preds d (combinedOf preds (s .combination) (testOf words doubles s)) (combinedOf preds (s .combination) (not (testOf words doubles s)))
+
+-- what selp and slct choose of a and b
+abbrev pub eitherOf : Bool → Choice → List ℕ → List ℕ → ℕ
+eitherOf first s words doubles = cond first (operandOf words doubles (s .a)) (operandOf words doubles (s .b))
+
+abbrev pub selpWrite : Pred → Choice → List ℕ → List ℕ → List ℕ → Write
+selpWrite c s words doubles preds = operandWrite (s .d) (selpOf (predOf preds c) (operandOf words doubles (s .a)) (operandOf words doubles (s .b)))
+
+abbrev pub slctWrite : SlctType → Word → Choice → List ℕ → List ℕ → Write
+slctWrite ctype c s words doubles = operandWrite (s .d) (slctOf ctype (wordOf words c) (operandOf words doubles (s .a)) (operandOf words doubles (s .b)))
+
+unfoldable pub writeOf : Instruction → List ℕ → List ℕ → List ℕ → Write
+writeOf (Arithmetic op dtype sat s) words doubles preds = arithmeticWrite op dtype sat s words
+writeOf (Vset cmp s) words doubles preds = vsetWrite cmp s words
+writeOf (VsetLanes cmp l) words doubles preds = lanesWrite cmp l words
+writeOf (Set dtype d s) words doubles preds = setWrite dtype d s words doubles preds
+writeOf (Setp d s) words doubles preds = setpWrite d s words doubles preds
+writeOf (Selp s c) words doubles preds = selpWrite c s words doubles preds
+writeOf (Slct ctype s c) words doubles preds = slctWrite ctype c s words doubles
+
+-- ---- what the files hold after it
 
 -- one or two predicates get the first and the second place's value
 unfoldable pub predsWith : Destination → Bool → Bool → List ℕ → List ℕ
@@ -38,33 +79,7 @@ predsWith (Pair p q) first second preds = set (set preds (p .0) (bit first)) (q 
 predsWith (First p) first second preds = set preds (p .0) (bit first)
 predsWith (Second q) first second preds = set preds (q .0) (bit second)
 
--- ---- what each kind of instruction leaves in the file that it writes
-
-abbrev pub arithmeticWords : Arith → VideoType → Bool → Scalar → List ℕ → List ℕ
-arithmeticWords op dtype sat s words =
-    set words (formD (s .form) .0)
-    (arithmeticOf op dtype sat s (wordOf words (selectedWord (s .a))) (wordOf words (selectedWord (s .b))) (formC words (s .form)))
-
-abbrev pub vsetWords : Cmp6 → Scalar → List ℕ → List ℕ
-vsetWords cmp s words =
-    set words (formD (s .form) .0) (vsetOf cmp s (wordOf words (selectedWord (s .a))) (wordOf words (selectedWord (s .b))) (formC words (s .form)))
-
-abbrev pub lanesWords : Cmp6 → Lanes → List ℕ → List ℕ
-lanesWords cmp l words = set words (l .d .0) (lanesOf cmp l (wordOf words (l .a)) (wordOf words (l .b)) (wordOf words (l .c)))
-
-abbrev pub setWords : SetType → Word → Comparison → List ℕ → List ℕ → List ℕ → List ℕ
-setWords dtype d s words doubles preds = set words (d .0) (setOf dtype (combinedOf preds (s .combination) (testOf words doubles s)))
-
-abbrev pub setpPreds : Destination → Comparison → List ℕ → List ℕ → List ℕ → List ℕ
-setpPreds d s words doubles preds =
-    predsWith d (combinedOf preds (s .combination) (testOf words doubles s)) (combinedOf preds (s .combination) (not (testOf words doubles s))) preds
-
--- what selp and slct choose of a and b
-abbrev pub eitherOf : Bool → Choice → List ℕ → List ℕ → ℕ
-eitherOf first s words doubles = cond first (operandOf words doubles (s .a)) (operandOf words doubles (s .b))
-
-abbrev pub selpValue : Pred → Choice → List ℕ → List ℕ → List ℕ → ℕ
-selpValue c s words doubles preds = selpOf (predOf preds c) (operandOf words doubles (s .a)) (operandOf words doubles (s .b))
-
-abbrev pub slctValue : SlctType → Word → Choice → List ℕ → List ℕ → ℕ
-slctValue ctype c s words doubles = slctOf ctype (wordOf words c) (operandOf words doubles (s .a)) (operandOf words doubles (s .b))
+unfoldable pub written : Write → Files → Files
+written (Write.Word d v) f = files (set (f .words) (d .0) v) (f .doubles) (f .preds)
+written (Write.Double d v) f = files (f .words) (set (f .doubles) (d .0) v) (f .preds)
+written (Write.Preds d first second) f = files (f .words) (f .doubles) (predsWith d first second (f .preds))

@@ -22,12 +22,10 @@ use record::VideoType;
 use record::Word;
 ghost use mathlib.Core.Path.{_≡_};
 ghost use mathlib.Core.Bool.{cond};
-ghost use Prim.Native.Nat.{_%_};
-ghost use lib.ListN.{getD, set};
-ghost use Rattle.rules.specs.Numbers.{bit, wordSize};
-ghost use Rattle.rules.specs.Executing.{files, wordOf, predOf, operandOf, selectedWord, formC, formD, conditionHolds, combinedOf, testOf, after, sizesFit, predsFit, guardHolds, firstRefusal, outcome, run};
+ghost use lib.ListN.{set};
+ghost use Rattle.rules.specs.Executing.{files, operandOf, selectedWord, formC, formD, conditionHolds, combinedOf, testOf, sizesFit, predsFit, guardHolds, outcome, run};
 ghost use Rattle.execute.specs.Answers.{answerOf};
-ghost use Rattle.execute.specs.Mirror.{wordsWith, doublesWith, predsWith, arithmeticWords, vsetWords, lanesWords, setWords, setpPreds, eitherOf, selpValue, slctValue};
+ghost use Rattle.execute.specs.Mirror.{operandWrite, arithmeticWrite, vsetWrite, lanesWrite, setWrite, setpWrite, eitherOf, selpWrite, slctWrite, writeOf, predsWith, written};
 
 // Done, skipped (guard false), or refused with document 01's number.
 pub enum Executed {
@@ -36,44 +34,14 @@ pub enum Executed {
     Refused(u8),
 }
 
-// The lengths of the files, and how many values a word has.
-const WORDS: usize = 64;
-
-const DOUBLES: usize = 32;
-
-const PREDS: usize = 16;
-
-const WORD_SIZE: u64 = 4294967296;
-
-// The refusals of executing.
-const NOT_LEGAL: u8 = 8;
-
-const WRONG_SIZES: u8 = 10;
-
-const WRONG_PREDS: u8 = 11;
-
-// ---- registers: no place past the end is read or written
-
-fn get_word(words: &[u32], w: Word) -> u32
-    ensures { λ r. ⌜ r ≡ wordOf (now (words .entry)) w ⌝ }
-{
-    let i = w.0 as usize;
-    if i < words.len() { words[i] } else { 0 }
+// What an instruction writes: a word, a double-word, or the places of a destination.
+enum Write {
+    Word(Word, u32),
+    Double(Double, u64),
+    Preds(Destination, bool, bool),
 }
 
-fn get_double(doubles: &[u64], d: Double) -> u64
-    ensures { λ r. ⌜ r ≡ getD (now (doubles .entry)) (d .0) 0 ⌝ }
-{
-    let i = d.0 as usize;
-    if i < doubles.len() { doubles[i] } else { 0 }
-}
-
-fn get_pred(preds: &[u8], p: Pred) -> u8
-    ensures { λ r. ⌜ r ≡ predOf (now (preds .entry)) p ⌝ }
-{
-    let i = p.0 as usize;
-    if i < preds.len() { preds[i] } else { 0 }
-}
+// ---- registers: no place past the end is written
 
 fn put_word(words: &mut [u32], w: Word, v: u32)
     ensures { λ _. ⌜ now (words .exit) ≡ set (now (words .entry)) (w .0) v ⌝ }
@@ -114,24 +82,17 @@ fn operand(o: Operand, words: &[u32], doubles: &[u64]) -> u64
     ensures { λ r. ⌜ r ≡ operandOf (now (words .entry)) (now (doubles .entry)) o ⌝ }
 {
     match o {
-        Operand::Word(w) => widened(get_word(words, w)),
-        Operand::Double(d) => get_double(doubles, d),
+        Operand::Word(w) => widened(registers::word_at(words, w)),
+        Operand::Double(d) => registers::double_at(doubles, d),
     }
 }
 
-fn low_word(x: u64) -> u32
-    ensures { λ r. ⌜ r ≡ x % wordSize ⌝ }
-{
-    (x % WORD_SIZE) as u32
-}
-
-fn put_operand(o: Operand, v: u64, words: &mut [u32], doubles: &mut [u64])
-    ensures { λ _. ⌜ now (words .exit) ≡ wordsWith o v (now (words .entry)) ⌝ }
-    ensures { λ _. ⌜ now (doubles .exit) ≡ doublesWith o v (now (doubles .entry)) ⌝ }
+fn operand_write(o: Operand, v: u64) -> Write
+    ensures { λ r. ⌜ r ≡ operandWrite o v ⌝ }
 {
     match o {
-        Operand::Word(w) => put_word(words, w, low_word(v)),
-        Operand::Double(d) => put_double(doubles, d, v),
+        Operand::Word(w) => Write::Word(w, registers::low_word(v)),
+        Operand::Double(d) => Write::Double(d, v),
     }
 }
 
@@ -151,8 +112,8 @@ fn form_c(f: Form, words: &[u32]) -> u32
 {
     match f {
         Form::Plain { .. } => 0,
-        Form::Merge { c, .. } => get_word(words, c),
-        Form::Combine { c, .. } => get_word(words, c),
+        Form::Merge { c, .. } => registers::word_at(words, c),
+        Form::Combine { c, .. } => registers::word_at(words, c),
     }
 }
 
@@ -166,41 +127,38 @@ fn form_d(f: Form) -> Word
     }
 }
 
-fn do_arithmetic(op: Arith, dtype: VideoType, sat: bool, s: Scalar, words: &mut [u32])
-    ensures { λ _. ⌜ now (words .exit) ≡ arithmeticWords op dtype sat s (now (words .entry)) ⌝ }
+fn arithmetic_write(op: Arith, dtype: VideoType, sat: bool, s: Scalar, words: &[u32]) -> Write
+    ensures { λ r. ⌜ r ≡ arithmeticWrite op dtype sat s (now (words .entry)) ⌝ }
 {
     let sa = s.a;
     let sb = s.b;
     let f = s.form;
-    let a = get_word(words, selected_word(sa));
-    let b = get_word(words, selected_word(sb));
+    let a = registers::word_at(words, selected_word(sa));
+    let b = registers::word_at(words, selected_word(sb));
     let c = form_c(f, words);
-    put_word(
-        words,
-        form_d(f),
-        video::arithmetic(op, dtype, sat, s, a, b, c),
-    );
+    Write::Word(form_d(f), video::arithmetic(op, dtype, sat, s, a, b, c))
 }
 
-fn do_vset(cmp: Cmp6, s: Scalar, words: &mut [u32])
-    ensures { λ _. ⌜ now (words .exit) ≡ vsetWords cmp s (now (words .entry)) ⌝ }
+fn vset_write(cmp: Cmp6, s: Scalar, words: &[u32]) -> Write
+    ensures { λ r. ⌜ r ≡ vsetWrite cmp s (now (words .entry)) ⌝ }
 {
     let sa = s.a;
     let sb = s.b;
     let f = s.form;
-    let a = get_word(words, selected_word(sa));
-    let b = get_word(words, selected_word(sb));
+    let a = registers::word_at(words, selected_word(sa));
+    let b = registers::word_at(words, selected_word(sb));
     let c = form_c(f, words);
-    put_word(words, form_d(f), video::vset(cmp, s, a, b, c));
+    Write::Word(form_d(f), video::vset(cmp, s, a, b, c))
 }
 
-fn do_lanes(cmp: Cmp6, l: Lanes, words: &mut [u32])
-    ensures { λ _. ⌜ now (words .exit) ≡ lanesWords cmp l (now (words .entry)) ⌝ }
+fn lanes_write(cmp: Cmp6, l: Lanes, words: &[u32]) -> Write
+    ensures { λ r. ⌜ r ≡ lanesWrite cmp l (now (words .entry)) ⌝ }
 {
-    let a = get_word(words, l.a);
-    let b = get_word(words, l.b);
-    let c = get_word(words, l.c);
-    put_word(words, l.d, video::vset_lanes(cmp, l, a, b, c));
+    let d = l.d;
+    let a = registers::word_at(words, l.a);
+    let b = registers::word_at(words, l.b);
+    let c = registers::word_at(words, l.c);
+    Write::Word(d, video::vset_lanes(cmp, l, a, b, c))
 }
 
 // ---- set and setp
@@ -208,7 +166,7 @@ fn do_lanes(cmp: Cmp6, l: Lanes, words: &mut [u32])
 fn condition_holds(c: Condition, preds: &[u8]) -> bool
     ensures { λ r. ⌜ r ≡ conditionHolds (now (preds .entry)) c ⌝ }
 {
-    c.inverted ^ (get_pred(preds, c.pred) == 1)
+    c.inverted ^ (registers::pred_at(preds, c.pred) == 1)
 }
 
 fn combined(c: Combination, t: bool, preds: &[u8]) -> bool
@@ -232,29 +190,98 @@ fn test(s: Comparison, words: &[u32], doubles: &[u64]) -> bool
     compare::comparison(op, s.ftz, t, x, y)
 }
 
-fn do_set(dtype: SetType, d: Word, s: Comparison, words: &mut [u32], doubles: &[u64], preds: &[u8])
-    ensures { λ _. ⌜ now (words .exit) ≡ setWords dtype d s (now (words .entry)) (now (doubles .entry)) (now (preds .entry)) ⌝ }
+fn set_write(
+    dtype: SetType,
+    d: Word,
+    s: Comparison,
+    words: &[u32],
+    doubles: &[u64],
+    preds: &[u8],
+) -> Write
+    ensures { λ r. ⌜ r ≡ setWrite dtype d s (now (words .entry)) (now (doubles .entry)) (now (preds .entry)) ⌝ }
 {
     let combination = s.combination;
     let t = test(s, words, doubles);
-    put_word(
-        words,
+    Write::Word(
         d,
         compare::set_value(dtype, combined(combination, t, preds)),
-    );
+    )
 }
 
-fn bit_of(t: bool) -> u8
-    ensures { λ r. ⌜ r ≡ bit t ⌝ }
+fn setp_write(d: Destination, s: Comparison, words: &[u32], doubles: &[u64], preds: &[u8]) -> Write
+    ensures { λ r. ⌜ r ≡ setpWrite d s (now (words .entry)) (now (doubles .entry)) (now (preds .entry)) ⌝ }
 {
-    if t { 1 } else { 0 }
+    let combination = s.combination;
+    let t = test(s, words, doubles);
+    let first = combined(combination, t, preds);
+    let second = combined(combination, !t, preds);
+    Write::Preds(d, first, second)
+}
+
+// ---- selp and slct
+
+fn chosen(first: bool, a: u64, b: u64) -> u64
+    ensures { λ r. ⌜ r ≡ cond first a b ⌝ }
+{
+    if first { a } else { b }
+}
+
+fn choice_write(first: bool, s: Choice, words: &[u32], doubles: &[u64]) -> Write
+    ensures { λ r. ⌜ r ≡ operandWrite (s .d) (eitherOf first s (now (words .entry)) (now (doubles .entry))) ⌝ }
+{
+    let d = s.d;
+    let a = s.a;
+    let b = s.b;
+    let x = operand(a, words, doubles);
+    let y = operand(b, words, doubles);
+    operand_write(d, chosen(first, x, y))
+}
+
+fn selp_write(c: Pred, s: Choice, words: &[u32], doubles: &[u64], preds: &[u8]) -> Write
+    ensures { λ r. ⌜ r ≡ selpWrite c s (now (words .entry)) (now (doubles .entry)) (now (preds .entry)) ⌝ }
+{
+    let first = registers::pred_at(preds, c) == 1;
+    choice_write(first, s, words, doubles)
+}
+
+fn slct_write(ctype: SlctType, c: Word, s: Choice, words: &[u32], doubles: &[u64]) -> Write
+    ensures { λ r. ⌜ r ≡ slctWrite ctype c s (now (words .entry)) (now (doubles .entry)) ⌝ }
+{
+    let first = compare::not_below_zero(ctype, registers::word_at(words, c));
+    choice_write(first, s, words, doubles)
+}
+
+// ---- one instruction: all sources are read before any destination is written
+
+fn write_of(r: Record, words: &[u32], doubles: &[u64], preds: &[u8]) -> Write
+    ensures { λ w. ⌜ w ≡ writeOf (r .instruction) (now (words .entry)) (now (doubles .entry)) (now (preds .entry)) ⌝ }
+{
+    let i = r.instruction;
+    match i {
+        Instruction::Arithmetic {
+            op,
+            dtype,
+            sat,
+            scalar,
+        } => arithmetic_write(op, dtype, sat, scalar, words),
+        Instruction::Vset { cmp, scalar } => vset_write(cmp, scalar, words),
+        Instruction::VsetLanes { cmp, lanes } => lanes_write(cmp, lanes, words),
+        Instruction::Set {
+            dtype,
+            d,
+            comparison,
+        } => set_write(dtype, d, comparison, words, doubles, preds),
+        Instruction::Setp { d, comparison } => setp_write(d, comparison, words, doubles, preds),
+        Instruction::Selp { choice, c } => selp_write(c, choice, words, doubles, preds),
+        Instruction::Slct { ctype, choice, c } => slct_write(ctype, c, choice, words, doubles),
+    }
 }
 
 fn put_destination(d: Destination, first: bool, second: bool, preds: &mut [u8])
     ensures { λ _. ⌜ now (preds .exit) ≡ predsWith d first second (now (preds .entry)) ⌝ }
 {
-    let x = bit_of(first);
-    let y = bit_of(second);
+    let x = registers::bit_of(first) as u8;
+    let y = registers::bit_of(second) as u8;
     match d {
         Destination::One(p) => put_pred(preds, p, x),
         Destination::Pair(p, q) => {
@@ -266,74 +293,13 @@ fn put_destination(d: Destination, first: bool, second: bool, preds: &mut [u8])
     }
 }
 
-fn do_setp(d: Destination, s: Comparison, words: &[u32], doubles: &[u64], preds: &mut [u8])
-    ensures { λ _. ⌜ now (preds .exit) ≡ setpPreds d s (now (words .entry)) (now (doubles .entry)) (now (preds .entry)) ⌝ }
+fn put(w: Write, words: &mut [u32], doubles: &mut [u64], preds: &mut [u8])
+    ensures { λ _. ⌜ files (now (words .exit)) (now (doubles .exit)) (now (preds .exit)) ≡ written w (files (now (words .entry)) (now (doubles .entry)) (now (preds .entry))) ⌝ }
 {
-    let combination = s.combination;
-    let t = test(s, words, doubles);
-    let first = combined(combination, t, preds);
-    let second = combined(combination, !t, preds);
-    put_destination(d, first, second, preds);
-}
-
-// ---- selp and slct
-
-fn chosen(first: bool, a: u64, b: u64) -> u64
-    ensures { λ r. ⌜ r ≡ cond first a b ⌝ }
-{
-    if first { a } else { b }
-}
-
-fn do_choice(first: bool, s: Choice, words: &mut [u32], doubles: &mut [u64])
-    ensures { λ _. ⌜ now (words .exit) ≡ wordsWith (s .d) (eitherOf first s (now (words .entry)) (now (doubles .entry))) (now (words .entry)) ⌝ }
-    ensures { λ _. ⌜ now (doubles .exit) ≡ doublesWith (s .d) (eitherOf first s (now (words .entry)) (now (doubles .entry))) (now (doubles .entry)) ⌝ }
-{
-    let d = s.d;
-    let a = s.a;
-    let b = s.b;
-    let x = operand(a, words, doubles);
-    let y = operand(b, words, doubles);
-    put_operand(d, chosen(first, x, y), words, doubles);
-}
-
-fn do_selp(c: Pred, s: Choice, words: &mut [u32], doubles: &mut [u64], preds: &[u8])
-    ensures { λ _. ⌜ now (words .exit) ≡ wordsWith (s .d) (selpValue c s (now (words .entry)) (now (doubles .entry)) (now (preds .entry))) (now (words .entry)) ⌝ }
-    ensures { λ _. ⌜ now (doubles .exit) ≡ doublesWith (s .d) (selpValue c s (now (words .entry)) (now (doubles .entry)) (now (preds .entry))) (now (doubles .entry)) ⌝ }
-{
-    let first = get_pred(preds, c) == 1;
-    do_choice(first, s, words, doubles);
-}
-
-fn do_slct(ctype: SlctType, c: Word, s: Choice, words: &mut [u32], doubles: &mut [u64])
-    ensures { λ _. ⌜ now (words .exit) ≡ wordsWith (s .d) (slctValue ctype c s (now (words .entry)) (now (doubles .entry))) (now (words .entry)) ⌝ }
-    ensures { λ _. ⌜ now (doubles .exit) ≡ doublesWith (s .d) (slctValue ctype c s (now (words .entry)) (now (doubles .entry))) (now (doubles .entry)) ⌝ }
-{
-    let first = compare::not_below_zero(ctype, get_word(words, c));
-    do_choice(first, s, words, doubles);
-}
-
-// ---- one instruction
-
-fn perform(i: Instruction, words: &mut [u32], doubles: &mut [u64], preds: &mut [u8])
-    ensures { λ _. ⌜ files (now (words .exit)) (now (doubles .exit)) (now (preds .exit)) ≡ after i (files (now (words .entry)) (now (doubles .entry)) (now (preds .entry))) ⌝ }
-{
-    match i {
-        Instruction::Arithmetic {
-            op,
-            dtype,
-            sat,
-            scalar,
-        } => do_arithmetic(op, dtype, sat, scalar, words),
-        Instruction::Vset { cmp, scalar } => do_vset(cmp, scalar, words),
-        Instruction::VsetLanes { cmp, lanes } => do_lanes(cmp, lanes, words),
-        Instruction::Set {
-            dtype,
-            d,
-            comparison,
-        } => do_set(dtype, d, comparison, words, doubles, preds),
-        Instruction::Setp { d, comparison } => do_setp(d, comparison, words, doubles, preds),
-        Instruction::Selp { choice, c } => do_selp(c, choice, words, doubles, preds),
-        Instruction::Slct { ctype, choice, c } => do_slct(ctype, c, choice, words, doubles),
+    match w {
+        Write::Word(d, v) => put_word(words, d, v),
+        Write::Double(d, v) => put_double(doubles, d, v),
+        Write::Preds(d, first, second) => put_destination(d, first, second, preds),
     }
 }
 
@@ -342,7 +308,9 @@ fn perform(i: Instruction, words: &mut [u32], doubles: &mut [u64], preds: &mut [
 fn sizes_fit(words: &[u32], doubles: &[u64], preds: &[u8]) -> bool
     ensures { λ r. ⌜ r ≡ sizesFit (files (now (words .entry)) (now (doubles .entry)) (now (preds .entry))) ⌝ }
 {
-    (words.len() == WORDS) & (doubles.len() == DOUBLES) & (preds.len() == PREDS)
+    (words.len() == record::WORDS as usize)
+        & (doubles.len() == record::DOUBLES as usize)
+        & (preds.len() == record::PREDS as usize)
 }
 
 fn preds_fit(preds: &[u8]) -> bool
@@ -367,38 +335,22 @@ fn guard_holds(g: Guard, preds: &[u8]) -> bool
     }
 }
 
-// The first refusal that applies, 0 where none does.
-fn first_refusal(illegal: bool, wrong_sizes: bool, wrong_preds: bool) -> u8
-    ensures { λ r. ⌜ r ≡ firstRefusal illegal «wrong_sizes» «wrong_preds» ⌝ }
-{
-    if illegal {
-        return NOT_LEGAL;
-    }
-    if wrong_sizes {
-        return WRONG_SIZES;
-    }
-    if wrong_preds {
-        return WRONG_PREDS;
-    }
-    0
-}
-
 // Executes the record on the lent files. A refusal or a false guard changes nothing.
 pub fn execute(r: Record, words: &mut [u32], doubles: &mut [u64], preds: &mut [u8]) -> Executed
     ensures { λ x. ⌜ outcome (answerOf x) (files (now (words .exit)) (now (doubles .exit)) (now (preds .exit))) ≡ run r (files (now (words .entry)) (now (doubles .entry)) (now (preds .entry))) ⌝ }
 {
+    let g = r.guard;
     let illegal = !legal::legal(r);
     let wrong_sizes = !sizes_fit(words, doubles, preds);
     let wrong_preds = !preds_fit(preds);
-    let n = first_refusal(illegal, wrong_sizes, wrong_preds);
+    let n = refusals::executing(illegal, wrong_sizes, wrong_preds);
     if n != 0 {
         return Executed::Refused(n);
     }
-    let g = r.guard;
     if !guard_holds(g, preds) {
         return Executed::Skipped;
     }
-    let i = r.instruction;
-    perform(i, words, doubles, preds);
+    let w = write_of(r, words, doubles, preds);
+    put(w, words, doubles, preds);
     Executed::Done
 }

@@ -49,7 +49,8 @@ use Rattle.fills.specs.FillComplete.{fill-complete}
 use Rattle.fills.specs.FillSound.{fill-sound}
 use Rattle.fills.specs.declared.Filled
 use Rattle.fills.specs.declared.Filled.{Filled}
-use Rattle.read.specs.Mirror.{guardGood, guardIn, instructionIn, fullIs, filledIn, recordOf, candidateBy, candidateOf, firstRefusal, numberOf, decided, decidedBy, readOf}
+use Rattle.refusals.specs.Order.{firstRefusal}
+use Rattle.read.specs.Mirror.{guardGood, guardIn, instructionIn, fullIs, filledIn, recordOf, candidateBy, candidateOf, fitBy, numberOf, decided, decidedBy, readOf}
 
 -- ==== what stands between the rooms
 
@@ -394,30 +395,36 @@ one-record l m n r q =
     let e : seen (r .tree) ≡ seen (q .tree) = sym (is-good l (r .short) (r .tree) (r .shaped) .1) ∙ is-good l (q .short) (q .tree) (q .shaped) .1 in
     seen-one (r .tree) (q .tree) e m n (r .spells) (q .spells)
 
--- ==== as the code decides: a number, 0 for none
+-- ==== as the code decides, stage by stage
 
-abbrev numberIs : List ℕ → ℕ
-numberIs l = numberOf (ltb lineLimit (length l)) (shapeOf l .good) (candidateOf (shapeOf l .parts))
+-- the guard is looked at last
+pub ends-full : (good : Bool) (m : Record) → decidedBy false true (fitBy good m) ≡ decidedBy false true (record { spelled = m; opcode = true; row = true; fit = good && true && operandsFit m })
+ends-full true m = refl
+ends-full false m = refl
 
-refused-is : (l : List ℕ) (n : ℕ) → n ≡ numberIs l → (n ≡ 0 → ⊥) → readOf l ≡ refused n
-unfolding readOf
-refused-is l zero e h = absurd (h refl)
-refused-is l (suc n) e h = rw (← e)
+pub ends-wrong : (good : Bool) (m : Record) → refused 5 ≡ decidedBy false true (record { spelled = m; opcode = true; row = true; fit = good && false && operandsFit m })
+ends-wrong true m = refl
+ends-wrong false m = refl
 
-read-is : (l : List ℕ) (n : ℕ) → n ≡ numberIs l → n ≡ 0 → readOf l ≡ read (candidateOf (shapeOf l .parts) .spelled)
-unfolding readOf
-read-is l n e z = rw (← e, z)
+-- a number, 0 for none
+pub ends-refused : (good : Bool) (m : Record) (n : ℕ) → n ≡ numberOf false true (fitBy good m) → (n ≡ 0 → ⊥) → refused n ≡ decidedBy false true (fitBy good m)
+ends-refused good m zero e h = absurd (h refl)
+ends-refused good m (suc n) e h = rw (← e)
 
-pub ends-refused : (l : List ℕ) (n : ℕ) → n ≡ numberIs l → (n ≡ 0 → ⊥) → Answers l (refused n)
-ends-refused l n e h = subst (Answers l) (refused-is l n e h) (answers l)
+pub ends-read : (good : Bool) (m : Record) (n : ℕ) → n ≡ numberOf false true (fitBy good m) → n ≡ 0 → read m ≡ decidedBy false true (fitBy good m)
+ends-read good m n e z = rw (← e, z)
 
 -- without the shape the later stages do not count
-pub ends-unshaped : (l : List ℕ) → shapeOf l .good ≡ false → Answers l (refused (firstRefusal (ltb lineLimit (length l)) true true true true true true))
-ends-unshaped l e = go (ltb lineLimit (length l)) refl
+pub ends-unshaped : (l : List ℕ) → length l ≤ lineLimit → shapeOf l .good ≡ false → Answers l (refused 2)
+unfolding readOf
+ends-unshaped l h e = subst (Answers l) is (answers l)
   where
-    go : (b : Bool) → ltb lineLimit (length l) ≡ b → Answers l (refused (firstRefusal b true true true true true true))
-    go true t = ends-refused l 1 (rw t) (λ z. absurd (omega arith))
-    go false t = ends-refused l 2 (rw (t, e)) (λ z. absurd (omega arith))
+    is : readOf l ≡ refused 2
+    is = rw (le-ltb lineLimit (length l) h, e)
 
-pub ends-read : (l : List ℕ) (n : ℕ) → n ≡ numberIs l → n ≡ 0 → Answers l (read (candidateOf (shapeOf l .parts) .spelled))
-ends-read l n e z = subst (Answers l) (read-is l n e z) (answers l)
+pub ends-shaped : (l : List ℕ) (a : Answer) → length l ≤ lineLimit → shapeOf l .good ≡ true → a ≡ decidedBy false true (candidateOf (shapeOf l .parts)) → Answers l a
+unfolding readOf
+ends-shaped l a h e d = subst (Answers l) (is ∙ sym d) (answers l)
+  where
+    is : readOf l ≡ decidedBy false true (candidateOf (shapeOf l .parts))
+    is = rw (le-ltb lineLimit (length l) h, e)

@@ -28,8 +28,7 @@ use Rattle.heads.specs.declared.Found.{Found}
 use Rattle.fills.specs.Fills.{filledOf}
 use Rattle.fills.specs.declared.Filled
 use Rattle.fills.specs.declared.Filled.{Filled}
-use Rattle.read.specs.declared.Candidate.{Candidate}
-use Rattle.read.specs.declared.Stop.{Stop}
+use Rattle.refusals.specs.Order.{firstRefusal}
 
 -- ==== what the head gave
 
@@ -89,6 +88,13 @@ guardIn (Guarded negated p) = guardAt negated (predIn p)
 abbrev pub recordOf : Guard → Instruction → Record
 recordOf g i = record { guard = g; instruction = i }
 
+-- the record that the line spells as far as it spells one, and which stages it passed
+pub record Candidate : Type 0 where
+  pub spelled : Record
+  pub opcode : Bool
+  pub row : Bool
+  pub fit : Bool
+
 abbrev pub candidateBy : Guarding → Found → Filled → Candidate
 candidateBy g found filled =
     record {
@@ -101,23 +107,13 @@ candidateBy g found filled =
 unfoldable pub candidateOf : Parts → Candidate
 candidateOf x = candidateBy (x .guard) (rowOf (x .head)) (filledOf (instructionIn (rowOf (x .head))) (x .operands))
 
-abbrev pub firstRefusal : Bool → Bool → Bool → Bool → Bool → Bool → Bool → ℕ
-firstRefusal tooLong noShape noOpcode noRow noFit outOfFile samePair =
-    cond tooLong 1
-    (cond noShape 2
-    (cond noOpcode 3
-    (cond noRow 4
-    (cond noFit 5
-    (cond outOfFile 6
-    (cond samePair 7
-    0))))))
+-- a candidate whose head and operands were read
+abbrev pub fitBy : Bool → Record → Candidate
+fitBy good m = record { spelled = m; opcode = true; row = true; fit = good && operandsFit m }
 
 abbrev pub numberOf : Bool → Bool → Candidate → ℕ
 numberOf tooLong good c =
     firstRefusal tooLong (not good) (not (c .opcode)) (not (c .row)) (not (c .fit)) (not (numbersInRange (c .spelled))) (not (pairApart (c .spelled)))
-
-unfoldable pub stopOf : Bool → Bool → ℕ → Candidate → Stop
-stopOf tooLong good place c = record { number = numberOf tooLong good c; place = place }
 
 abbrev pub decided : ℕ → Record → Answer
 decided zero m = read m

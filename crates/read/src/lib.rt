@@ -1,22 +1,23 @@
 // Reads one line: its shape, its row of the modifier table, its operands, then numbers and pairs. The first refusal that applies decides.
 use fills::Filled;
 use heads::Found;
-use record::Choice;
 use record::Condition;
-use record::DataType;
 use record::Guard;
 use record::Instruction;
-use record::Operand;
 use record::Pred;
 use record::Record;
-use record::Word;
 use tree::Guarding;
+use tree::Operands;
 use tree::Parts;
 use tree::Place;
 ghost use mathlib.Core.Path.{_≡_};
+ghost use mathlib.Core.Bool.{true, false};
+ghost use Rattle.record.specs.Modifiers.{instructionModifiersFit};
 ghost use Rattle.rules.specs.Reading.{Answers};
+ghost use Rattle.fills.specs.Fills.{filledOf};
+ghost use Rattle.heads.specs.declared.Found.the-variants as found;
 ghost use Rattle.read.specs.Paper.{answerOf};
-ghost use Rattle.read.specs.Mirror.{opcodeIs, rowIs, noInstruction, instructionIn, fullIs, filledIn, predIs, predIn, guardGood, guardAt, guardIn, recordOf, candidateOf, firstRefusal, stopOf};
+ghost use Rattle.read.specs.Mirror.{predIs, predIn, guardGood, guardAt, guardIn, recordOf, candidateBy, candidateOf, fitBy, numberOf, decidedBy};
 
 // The record, or document 01's number of the refusal.
 pub enum Reading {
@@ -26,102 +27,6 @@ pub enum Reading {
 
 // A line has at most so many bytes.
 const LINE_LIMIT: usize = 160;
-
-// The refusals of reading.
-const TOO_LONG: u8 = 1;
-
-const NO_SHAPE: u8 = 2;
-
-const NO_OPCODE: u8 = 3;
-
-const NO_ROW: u8 = 4;
-
-const NO_FIT: u8 = 5;
-
-const OUT_OF_FILE: u8 = 6;
-
-const SAME_PAIR: u8 = 7;
-
-// A refusal, 0 for none, and how far the scanner got.
-struct Stop {
-    number: u8,
-    place: usize,
-}
-
-// The record that the line spells as far as it spells one, and which stages it passed.
-struct Candidate {
-    spelled: Record,
-    opcode: bool,
-    row: bool,
-    fit: bool,
-}
-
-// ---- what the head gave
-
-fn has_opcode(f: Found) -> bool
-    ensures { λ r. ⌜ r ≡ opcodeIs f ⌝ }
-{
-    match f {
-        Found::Row(_) => true,
-        Found::NoOpcode => false,
-        Found::Wrong(_) => true,
-    }
-}
-
-fn has_row(f: Found) -> bool
-    ensures { λ r. ⌜ r ≡ rowIs f ⌝ }
-{
-    match f {
-        Found::Row(_) => true,
-        Found::NoOpcode => false,
-        Found::Wrong(_) => false,
-    }
-}
-
-// What stands in for an instruction where there is none.
-fn no_instruction() -> Instruction
-    ensures { λ r. ⌜ r ≡ noInstruction ⌝ }
-{
-    Instruction::Selp {
-        choice: Choice {
-            dtype: DataType::B32,
-            d: Operand::Word(Word(0)),
-            a: Operand::Word(Word(0)),
-            b: Operand::Word(Word(0)),
-        },
-        c: Pred(0),
-    }
-}
-
-fn instruction_in(f: Found) -> Instruction
-    ensures { λ r. ⌜ r ≡ instructionIn f ⌝ }
-{
-    match f {
-        Found::Row(i) => i,
-        Found::NoOpcode => no_instruction(),
-        Found::Wrong(_) => no_instruction(),
-    }
-}
-
-// ---- what the operands gave
-
-fn is_full(f: Filled) -> bool
-    ensures { λ r. ⌜ r ≡ fullIs f ⌝ }
-{
-    match f {
-        Filled::Full(_) => true,
-        Filled::Wrong(_) => false,
-    }
-}
-
-fn filled_in(f: Filled) -> Instruction
-    ensures { λ r. ⌜ r ≡ filledIn f ⌝ }
-{
-    match f {
-        Filled::Full(i) => i,
-        Filled::Wrong(_) => no_instruction(),
-    }
-}
 
 // ---- the guard is a predicate
 
@@ -172,7 +77,7 @@ fn guard_in(g: Guarding) -> Guard
     }
 }
 
-// ---- the stages
+// ---- the stages: where a line stops, what the later ones would say no longer counts
 
 fn record_of(guard: Guard, instruction: Instruction) -> Record
     ensures { λ r. ⌜ r ≡ recordOf guard instruction ⌝ }
@@ -183,79 +88,62 @@ fn record_of(guard: Guard, instruction: Instruction) -> Record
     }
 }
 
-fn weighed(x: Parts) -> Candidate
-    ensures { λ r. ⌜ r ≡ candidateOf x ⌝ }
+// Refusals 5, 6 and 7, 0 for none.
+fn last_refusal(good: bool, r: Record) -> u8
+    ensures { λ n. ⌜ n ≡ numberOf false true (fitBy good r) ⌝ }
+{
+    let fit = good & fits::operands_fit(r);
+    let inside = legal::numbers_in_range(r);
+    let apart = legal::pair_apart(r);
+    refusals::reading(false, false, false, false, !fit, !inside, !apart)
+}
+
+fn from_filled(g: Guarding, i: Instruction) -> Reading
+    ensures { λ a. ⌜ answerOf a ≡ decidedBy false true (fitBy (guardGood g) (recordOf (guardIn g) i)) ⌝ }
+{
+    let r = record_of(guard_in(g), i);
+    let n = last_refusal(guard_good(g), r);
+    if n != 0 {
+        return Reading::Refused(n);
+    }
+    Reading::Record(r)
+}
+
+// No guard counts in the table of modifiers.
+fn row_fits(i: Instruction) -> bool
+    ensures { λ r. ⌜ r ≡ instructionModifiersFit i ⌝ }
+{
+    fits::modifiers_fit(record_of(Guard::Always, i))
+}
+
+fn from_row(g: Guarding, i: Instruction, operands: Operands) -> Reading
+    ensures { λ a. ⌜ answerOf a ≡ decidedBy false true (candidateBy g (found.Row i) (filledOf i operands)) ⌝ }
+{
+    if !row_fits(i) {
+        return Reading::Refused(refusals::reading(false, false, false, true, true, true, true));
+    }
+    match fills::fill_in(i, operands) {
+        Filled::Full(j) => from_filled(g, j),
+        Filled::Wrong(_) => {
+            Reading::Refused(refusals::reading(false, false, false, false, true, true, true))
+        }
+    }
+}
+
+fn from_parts(x: Parts) -> Reading
+    ensures { λ a. ⌜ answerOf a ≡ decidedBy false true (candidateOf x) ⌝ }
 {
     let g = x.guard;
     let head = x.head;
     let operands = x.operands;
-    let guard = guard_in(g);
-    let found = heads::row(head);
-    let named = instruction_in(found);
-    let filled = fills::fill_in(named, operands);
-    let r = record_of(guard, filled_in(filled));
-    let row = has_row(found) & fits::modifiers_fit(record_of(guard, named));
-    let fit = guard_good(g) & is_full(filled) & fits::operands_fit(r);
-    Candidate {
-        spelled: r,
-        opcode: has_opcode(found),
-        row: row,
-        fit: fit,
-    }
-}
-
-// The first refusal that applies, 0 where none does.
-fn first_refusal(
-    too_long: bool,
-    no_shape: bool,
-    no_opcode: bool,
-    no_row: bool,
-    no_fit: bool,
-    out_of_file: bool,
-    same_pair: bool,
-) -> u8
-    ensures { λ r. ⌜ r ≡ firstRefusal «too_long» «no_shape» «no_opcode» «no_row» «no_fit» «out_of_file» «same_pair» ⌝ }
-{
-    if too_long {
-        return TOO_LONG;
-    }
-    if no_shape {
-        return NO_SHAPE;
-    }
-    if no_opcode {
-        return NO_OPCODE;
-    }
-    if no_row {
-        return NO_ROW;
-    }
-    if no_fit {
-        return NO_FIT;
-    }
-    if out_of_file {
-        return OUT_OF_FILE;
-    }
-    if same_pair {
-        return SAME_PAIR;
-    }
-    0
-}
-
-fn stopped(too_long: bool, good: bool, place: usize, c: Candidate) -> Stop
-    ensures { λ r. ⌜ r ≡ stopOf «too_long» good place c ⌝ }
-{
-    let r = c.spelled;
-    let number = first_refusal(
-        too_long,
-        !good,
-        !c.opcode,
-        !c.row,
-        !c.fit,
-        !legal::numbers_in_range(r),
-        !legal::pair_apart(r),
-    );
-    Stop {
-        number: number,
-        place: place,
+    match heads::row(head) {
+        Found::Row(i) => from_row(g, i, operands),
+        Found::NoOpcode => {
+            Reading::Refused(refusals::reading(false, false, true, true, true, true, true))
+        }
+        Found::Wrong(_) => {
+            Reading::Refused(refusals::reading(false, false, false, true, true, true, true))
+        }
     }
 }
 
@@ -264,18 +152,14 @@ fn stopped(too_long: bool, good: bool, place: usize, c: Candidate) -> Stop
 pub fn read(line: &[u8]) -> Reading
     ensures { λ a. ⌜ Answers (now (line .entry)) (answerOf a) ⌝ }
 {
-    let too_long = LINE_LIMIT < line.len();
+    if LINE_LIMIT < line.len() {
+        // Before a look at its bytes, so that no line takes longer than one of the limit.
+        return Reading::Refused(refusals::reading(true, true, true, true, true, true, true));
+    }
     let scanned = shape::shape(line);
     if !scanned.good {
-        // What the later stages would say no longer counts.
-        return Reading::Refused(first_refusal(too_long, true, true, true, true, true, true));
+        return Reading::Refused(refusals::reading(false, true, true, true, true, true, true));
     }
     let parts = scanned.parts;
-    let c = weighed(parts);
-    let s = stopped(too_long, true, scanned.place, c);
-    if s.number != 0 {
-        return Reading::Refused(s.number);
-    }
-    let spelled = c.spelled;
-    Reading::Record(spelled)
+    from_parts(parts)
 }

@@ -12,6 +12,7 @@ use record::Scalar;
 use record::Selected;
 use record::Selector;
 use record::VideoType;
+use registers::WORD_SIZE;
 ghost use mathlib.Core.Path.{_≡_};
 ghost use mathlib.Core.Bool.{cond, false};
 ghost use Prim.Native.Nat.{_+_, _%_, _^_, _<_, _≤_};
@@ -23,9 +24,7 @@ ghost use Rattle.video.specs.Exact.{bias, exactly, Near, Wide, rejoinedO
 
 // What every exact number is moved up by: 2^36.
 const BIAS: u64 = 68719476736;
-// How many values a word, a half and a byte have.
-const WORD_SIZE: u64 = 4294967296;
-
+// How many values a half and a byte have.
 const HALF_SIZE: u32 = 65536;
 
 const BYTE_SIZE: u32 = 256;
@@ -324,12 +323,6 @@ pub fn arithmetic(op: Arith, dtype: VideoType, sat: bool, s: Scalar, a: u32, b: 
     formed(sign, f, c, clamped(sat, sign, form_size(f), z))
 }
 
-fn bit_of(t: bool) -> u32
-    ensures { λ r. ⌜ (r ≡ bit t) × (r ≤ 1) ⌝ }
-{
-    if t { 1 } else { 0 }
-}
-
 // What vset gives of a, b and c.
 pub fn vset(cmp: Cmp6, s: Scalar, a: u32, b: u32, c: u32) -> u32
     ensures { λ r. ⌜ r ≡ vsetOf cmp s a b c ⌝ }
@@ -340,7 +333,7 @@ pub fn vset(cmp: Cmp6, s: Scalar, a: u32, b: u32, c: u32) -> u32
     let sb = s.b;
     let f = s.form;
     let t = holds(cmp, selected(ta, sa, a), selected(tb, sb, b));
-    formed(false, f, c, number(false, WORD_SIZE, bit_of(t)))
+    formed(false, f, c, number(false, WORD_SIZE, registers::bit_of(t)))
 }
 
 // ---- vset2 and vset4: the lanes are handled as one small group
@@ -402,7 +395,7 @@ fn held(cmp: Cmp6, l: Lanes, a: u32, b: u32) -> [bool; 4]
 fn lane(masked: bool, t: bool, keep: u32) -> u32
     ensures { λ r. ⌜ r ≡ cond masked (bit t) keep ⌝ }
 {
-    either(masked, bit_of(t), keep)
+    either(masked, registers::bit_of(t), keep)
 }
 
 // Masked lanes get 1 or 0, the others keep c's part.
@@ -421,10 +414,10 @@ fn merged(m: Mask, h: [bool; 4], c: [u32; 4]) -> [u32; 4]
 fn counted(w: LaneWidth, m: Mask, h: [bool; 4]) -> u32
     ensures { λ r. ⌜ (r ≡ countedOf w m h) × (r ≤ 4) ⌝ }
 {
-    let n0 = bit_of(m.lane0 & h[0]);
-    let n1 = bit_of(m.lane1 & h[1]);
-    let n2 = bit_of(m.lane2 & h[2]);
-    let n3 = bit_of(m.lane3 & h[3]);
+    let n0 = registers::bit_of(m.lane0 & h[0]);
+    let n1 = registers::bit_of(m.lane1 & h[1]);
+    let n2 = registers::bit_of(m.lane2 & h[2]);
+    let n3 = registers::bit_of(m.lane3 & h[3]);
     match w {
         LaneWidth::Half => n0 + n1,
         LaneWidth::Byte => n0 + (n1 + (n2 + n3)),

@@ -6,7 +6,6 @@ use Rattle.compare.proofs.value.Reads as reads
 use Rattle.compare.proofs.value.Lts as lts
 use Rattle.compare.proofs.double.Reads as double-reads
 use Rattle.compare.proofs.flush.Reads as flush-reads
-use Rattle.compare.proofs.low_word.Reads as low-word-reads
 use Rattle.compare.proofs.moved.Reads as moved-reads
 use Rattle.compare.proofs.single.Reads as single-reads
 

@@ -9,7 +9,7 @@ use Rattle.execute.specs.Answers.{answers-one}
 use Rattle.execute.specs.declared.Executed.{Executed}
 use Rattle.execute.proofs.execute.Kinds as kinds
 use Rattle.base.specs.Tests.{failed, passed}
-use Rattle.execute.proofs.Laws.{ends-refused, ends-skipped, ends-done}
+use Rattle.execute.proofs.Laws.{instruction-written, ends-refused, ends-skipped, ends-done}
 use borrow.Author.Needs.{needs}
 use Rattle.execute.proofs.execute.Statement.{statement}
 use Rattle.execute.proofs.execute.Tie as tie
@@ -24,8 +24,8 @@ sizes-fit-requires c κs = search needs
 preds-fit-requires : tie.Need-preds-fit-requires
 preds-fit-requires c κs = search needs
 
-first-refusal-requires : tie.Need-first-refusal-requires
-first-refusal-requires c κs = search needs
+executing-requires : tie.Need-executing-requires
+executing-requires c κs = search needs
 
 same-length : tie.Need-same-length
 same-length c = search needs
@@ -39,7 +39,7 @@ same-length-3 c = search needs
 returns : tie.Need-returns
 returns c =
     ends-refused _ _ _
-    (simp (c .before .first-refusal .ensures, c .before .before .preds-fit .ensures, c .before .before .before .before .sizes-fit .ensures, c .before .before .before .before .before .before .before .before .legal .ensures))
+    (simp (c .before .executing .ensures, c .before .before .preds-fit .ensures, c .before .before .before .before .sizes-fit .ensures, c .before .before .before .before .before .before .before .before .legal .ensures))
     (c .if1 .taken)
 
 guard-holds-requires : tie.Need-guard-holds-requires
@@ -57,12 +57,15 @@ same-length-6 c = search needs
 returns-2 : tie.Need-returns-2
 returns-2 c =
     ends-skipped _ _ _
-    (simp (c .before .before .before .before .first-refusal .ensures, c .before .before .before .before .before .preds-fit .ensures, c .before .before .before .before .before .before .before .sizes-fit .ensures, c .before .before .before .before .before .before .before .before .before .before .before .legal .ensures))
+    (simp (c .before .before .before .before .executing .ensures, c .before .before .before .before .before .preds-fit .ensures, c .before .before .before .before .before .before .before .sizes-fit .ensures, c .before .before .before .before .before .before .before .before .before .before .before .legal .ensures))
     (c .before .before .before .if1 .left)
     (failed (c .before .guard-holds .ensures) (c .if2 .taken))
 
-perform-requires : tie.Need-perform-requires
-perform-requires c κs = search needs
+write-of-requires : tie.Need-write-of-requires
+write-of-requires c κs = search needs
+
+put-requires : tie.Need-put-requires
+put-requires c κs = search needs
 
 same-length-7 : tie.Need-same-length-7
 same-length-7 c = search needs
@@ -76,10 +79,10 @@ same-length-9 c = search needs
 returns-3 : tie.Need-returns-3
 returns-3 c =
     ends-done _ _ _
-    (simp (c .before .before .before .before .before .before .before .before .before .before .before .before .before .before .first-refusal .ensures, c .before .before .before .before .before .before .before .before .before .before .before .before .before .before .before .preds-fit .ensures, c .before .before .before .before .before .before .before .before .before .before .before .before .before .before .before .before .before .sizes-fit .ensures, c .before .before .before .before .before .before .before .before .before .before .before .before .before .before .before .before .before .before .before .before .before .legal .ensures))
-    (c .before .before .before .before .before .before .before .before .before .before .before .before .before .if1 .left)
-    (passed (c .before .before .before .before .before .before .before .before .before .before .before .guard-holds .ensures) (c .before .before .before .before .before .before .before .before .before .before .if2 .left))
-    (c .before .before .before .before .before .before .perform .ensures)
+    (simp (c .before .before .before .before .before .before .before .before .before .before .before .before .before .before .before .before .before .before .executing .ensures, c .before .before .before .before .before .before .before .before .before .before .before .before .before .before .before .before .before .before .before .preds-fit .ensures, c .before .before .before .before .before .before .before .before .before .before .before .before .before .before .before .before .before .before .before .before .before .sizes-fit .ensures, c .before .before .before .before .before .before .before .before .before .before .before .before .before .before .before .before .before .before .before .before .before .before .before .before .before .legal .ensures))
+    (c .before .before .before .before .before .before .before .before .before .before .before .before .before .before .before .before .before .if1 .left)
+    (passed (c .before .before .before .before .before .before .before .before .before .before .before .before .before .before .before .guard-holds .ensures) (c .before .before .before .before .before .before .before .before .before .before .before .before .before .before .if2 .left))
+    (rw (c .before .before .before .before .before .before .put .ensures, c .before .before .before .before .before .before .before .before .before .before .write-of .ensures) (instruction-written _ _))
 
 pub execute-spec : {M : Type 1} → statement M
 execute-spec =
@@ -88,7 +91,7 @@ execute-spec =
     legal-requires
     sizes-fit-requires
     preds-fit-requires
-    first-refusal-requires
+    executing-requires
     same-length
     same-length-2
     same-length-3
@@ -98,7 +101,8 @@ execute-spec =
     same-length-5
     same-length-6
     returns-2
-    perform-requires
+    write-of-requires
+    put-requires
     same-length-7
     same-length-8
     same-length-9

@@ -8,14 +8,14 @@ enum-told c = search needs
 enum-known-f : tie.Need-enum-known-f
 enum-known-f c = search needs
 
-get-word-requires : tie.Need-get-word-requires
-get-word-requires c κs = search needs
+word-at-requires : tie.Need-word-at-requires
+word-at-requires c κs = search needs
 
 enum-known-f-2 : tie.Need-enum-known-f-2
 enum-known-f-2 c = search needs
 
-get-word-requires-2 : tie.Need-get-word-requires-2
-get-word-requires-2 c κs = search needs
+word-at-requires-2 : tie.Need-word-at-requires-2
+word-at-requires-2 c κs = search needs
 
 returns : tie.Need-returns
 returns c = search needs
@@ -23,14 +23,14 @@ returns c = search needs
 returns-2 : tie.Need-returns-2
 returns-2 c =
     simp (
-      c .get-word .ensures,
+      c .word-at .ensures,
       c .before .before .f .given .1,
     )
 
 returns-3 : tie.Need-returns-3
 returns-3 c =
     simp (
-      c .get-word2 .ensures,
+      c .word-at2 .ensures,
       c .before .before .f2 .given .1,
     )
 
@@ -40,9 +40,9 @@ form-c-spec =
     (tie.spec
     enum-told
     enum-known-f
-    get-word-requires
+    word-at-requires
     enum-known-f-2
-    get-word-requires-2
+    word-at-requires-2
     returns
     returns-2
     returns-3)

@@ -6,8 +6,14 @@ use Rattle.execute.proofs.put_destination.Tie as tie
 bit-of-requires : tie.Need-bit-of-requires
 bit-of-requires c κs = search needs
 
+cast-x : tie.Need-cast-x
+cast-x c = search needs
+
 bit-of-requires-2 : tie.Need-bit-of-requires-2
 bit-of-requires-2 c κs = search needs
+
+cast-y : tie.Need-cast-y
+cast-y c = search needs
 
 enum-known-d : tie.Need-enum-known-d
 enum-known-d c = search needs
@@ -45,8 +51,8 @@ returns c =
     simp (
       c .before .before .put-pred .ensures,
       c .before .before .before .before .before .d .given .1,
-      c .before .before .before .before .before .before .before .bit-of2 .ensures,
-      c .before .before .before .before .before .before .before .before .bit-of .ensures,
+      c .before .before .before .before .before .before .before .bit-of2 .ensures .0,
+      c .before .before .before .before .before .before .before .before .bit-of .ensures .0,
     )
 
 same-length-2 : tie.Need-same-length-2
@@ -59,8 +65,8 @@ returns-2 c =
       c .before .before .put-pred3 .ensures,
       c .before .before .before .before .before .before .put-pred2 .ensures,
       c .before .before .before .before .before .before .before .before .before .d2 .given .1,
-      c .before .before .before .before .before .before .before .before .before .before .before .bit-of2 .ensures,
-      c .before .before .before .before .before .before .before .before .before .before .before .before .bit-of .ensures,
+      c .before .before .before .before .before .before .before .before .before .before .before .bit-of2 .ensures .0,
+      c .before .before .before .before .before .before .before .before .before .before .before .before .bit-of .ensures .0,
     )
 
 same-length-3 : tie.Need-same-length-3
@@ -72,8 +78,8 @@ returns-3 c =
     simp (
       c .before .before .put-pred4 .ensures,
       c .before .before .before .before .before .d3 .given .1,
-      c .before .before .before .before .before .before .before .bit-of2 .ensures,
-      c .before .before .before .before .before .before .before .before .bit-of .ensures,
+      c .before .before .before .before .before .before .before .bit-of2 .ensures .0,
+      c .before .before .before .before .before .before .before .before .bit-of .ensures .0,
     )
 
 same-length-4 : tie.Need-same-length-4
@@ -85,8 +91,8 @@ returns-4 c =
     simp (
       c .before .before .put-pred5 .ensures,
       c .before .before .before .before .before .d4 .given .1,
-      c .before .before .before .before .before .before .before .bit-of2 .ensures,
-      c .before .before .before .before .before .before .before .before .bit-of .ensures,
+      c .before .before .before .before .before .before .before .bit-of2 .ensures .0,
+      c .before .before .before .before .before .before .before .before .bit-of .ensures .0,
     )
 
 pub put-destination-spec : {M : Type 1} → statement M
@@ -94,7 +100,9 @@ put-destination-spec =
     tie.close
     (tie.spec
     bit-of-requires
+    cast-x
     bit-of-requires-2
+    cast-y
     enum-known-d
     put-pred-requires
     enum-known-d-2

@@ -4,65 +4,55 @@ use contract.Lifetimes.{Lfts}
 use borrow.Fn.Kinds.{Dens, endedOf}
 use borrow.Author.Tests.{not-true, not-false}
 use denote.Triple.Clauses.{AtExit}
+use denote.Ref.{now}
+use Rattle.rules.specs.Reading.{over-160, refuses}
+use Rattle.shape.specs.Line.{shapeOf}
 use Rattle.read.specs.Paper.{answers-one}
+use Rattle.read.specs.Laws.{answers-unique, ends-unshaped, ends-shaped}
 use Rattle.read.specs.declared.Reading.{Reading}
 use Rattle.read.proofs.read.Kinds as kinds
-use denote.Ref.{now}
-use Rattle.shape.specs.Line.{shapeOf}
-use Rattle.read.specs.Mirror.{stopOf}
-use Rattle.read.specs.Laws.{answers-unique, ends-refused, ends-unshaped, ends-read}
 use borrow.Author.Needs.{needs}
 use Rattle.read.proofs.read.Statement.{statement}
 use Rattle.read.proofs.read.Tie as tie
 use Rattle.read.proofs.read.Reads as reads
 
+reading-requires : tie.Need-reading-requires
+reading-requires c κs = search needs
+
+returns : tie.Need-returns
+returns c = rw (c .reading .ensures) (refuses (over-160 (c .before .if1 .taken)))
+
 shape-requires : tie.Need-shape-requires
 shape-requires c κs = search needs
 
-first-refusal-requires : tie.Need-first-refusal-requires
-first-refusal-requires c κs = search needs
-
-returns : tie.Need-returns
-returns c =
-    let line = now (c .before .before .before .before .before .args .line) in
-    let bare : shapeOf line .good ≡ false = rw (← c .before .before .before .shape .ensures) (not-true _ (c .before .if1 .taken)) in
-    rw (c .first-refusal .ensures) (ends-unshaped line bare)
-
-weighed-requires : tie.Need-weighed-requires
-weighed-requires c κs = search needs
-
-stopped-requires : tie.Need-stopped-requires
-stopped-requires c κs = search needs
+reading-requires-2 : tie.Need-reading-requires-2
+reading-requires-2 c κs = search needs
 
 returns-2 : tie.Need-returns-2
-unfolding stopOf
 returns-2 c =
-    let line = now (c .before .before .before .before .before .before .before .before .before .args .line) in
-    let shaped : shapeOf line .good ≡ true = rw (← c .before .before .before .before .before .before .before .shape .ensures) (not-false _ (c .before .before .before .before .before .if1 .left)) in
-    ends-refused line _
-    (simp (c .before .before .stopped .ensures, c .before .before .before .weighed .ensures, c .before .before .before .before .before .before .before .shape .ensures, shaped))
-    (c .if2 .taken)
+    let line = now (c .before .before .before .before .before .before .args .line) in
+    let bare : shapeOf line .good ≡ false = rw (← c .before .before .before .shape .ensures) (not-true _ (c .before .if2 .taken)) in
+    rw (c .reading2 .ensures) (ends-unshaped line (c .before .before .before .before .if1 .left) bare)
+
+from-parts-requires : tie.Need-from-parts-requires
+from-parts-requires c κs = search needs
 
 returns-3 : tie.Need-returns-3
-unfolding stopOf
 returns-3 c =
-    let line = now (c .before .before .before .before .before .before .before .before .before .before .args .line) in
-    let shaped : shapeOf line .good ≡ true = rw (← c .before .before .before .before .before .before .before .before .shape .ensures) (not-false _ (c .before .before .before .before .before .before .if1 .left)) in
-    rw (c .before .before .before .before .weighed .ensures, c .before .before .before .before .before .before .before .before .shape .ensures)
-    (ends-read line _
-    (simp (c .before .before .before .stopped .ensures, c .before .before .before .before .weighed .ensures, c .before .before .before .before .before .before .before .before .shape .ensures, shaped))
-    (c .before .if2 .left))
+    let line = now (c .before .before .before .before .before .before .before .args .line) in
+    let shaped : shapeOf line .good ≡ true = rw (← c .before .before .before .before .shape .ensures) (not-false _ (c .before .before .if2 .left)) in
+    ends-shaped line _ (c .before .before .before .before .before .if1 .left) shaped (simp (c .from-parts .ensures, c .before .before .before .before .shape .ensures))
 
 pub read-spec : {M : Type 1} → statement M
 read-spec =
     tie.close
     (tie.spec
-    shape-requires
-    first-refusal-requires
+    reading-requires
     returns
-    weighed-requires
-    stopped-requires
+    shape-requires
+    reading-requires-2
     returns-2
+    from-parts-requires
     returns-3)
 
 -- no two outcomes satisfy the contract as it stands in src/lib.rt

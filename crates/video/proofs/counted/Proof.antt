@@ -5,7 +5,6 @@ use Rattle.video.proofs.counted.Statement.{statement}
 use Rattle.video.proofs.counted.Tie as tie
 use Rattle.video.proofs.counted.Reads as reads
 use Rattle.video.proofs.counted.Lts as lts
-use Rattle.video.proofs.bit_of.Reads as bit-of-reads
 
 -- src/lib.rt:433:31
 array-read-bit-of : tie.Need-array-read-bit-of

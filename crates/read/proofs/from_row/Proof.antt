@@ -1,0 +1,71 @@
+use Rattle.read.specs.Mirror.{guardGood, guardIn, recordOf, noInstruction}
+use Rattle.read.specs.Laws.{ends-full, ends-wrong}
+use Rattle.base.specs.Tests.{failed, passed}
+use borrow.Author.Needs.{needs}
+use Rattle.read.proofs.from_row.Statement.{statement}
+use Rattle.read.proofs.from_row.Tie as tie
+
+row-fits-requires : tie.Need-row-fits-requires
+row-fits-requires c κs = search needs
+
+reading-requires : tie.Need-reading-requires
+reading-requires c κs = search needs
+
+returns : tie.Need-returns
+returns c =
+    simp (
+      c .reading .ensures,
+      failed (c .before .before .row-fits .ensures) (c .before .if1 .taken),
+    )
+
+fill-in-requires : tie.Need-fill-in-requires
+fill-in-requires c κs = search needs
+
+enum-known-j : tie.Need-enum-known-j
+enum-known-j c = search needs
+
+from-filled-requires : tie.Need-from-filled-requires
+from-filled-requires c κs = search needs
+
+enum-told : tie.Need-enum-told
+enum-told c = search needs
+
+reading-requires-2 : tie.Need-reading-requires-2
+reading-requires-2 c κs = search needs
+
+returns-2 : tie.Need-returns-2
+returns-2 c =
+    let g = c .before .before .before .before .before .before .before .args .g in
+    simp (
+      c .from-filled .ensures,
+      passed (c .before .before .before .before .before .before .row-fits .ensures) (c .before .before .before .before .before .if1 .left),
+      ← c .before .before .before .before .fill-in .ensures,
+      c .before .before .j .given .1,
+    )
+    (ends-full (guardGood g) (recordOf (guardIn g) (c .before .before .j .given .0 .0)))
+
+returns-3 : tie.Need-returns-3
+returns-3 c =
+    let g = c .before .before .before .before .before .before .args .g in
+    simp (
+      c .reading2 .ensures,
+      passed (c .before .before .before .before .before .row-fits .ensures) (c .before .before .before .before .if1 .left),
+      ← c .before .before .before .fill-in .ensures,
+      c .before .enum-told .given .1,
+    )
+    (ends-wrong (guardGood g) (recordOf (guardIn g) noInstruction))
+
+pub from-row-spec : {M : Type 1} → statement M
+from-row-spec =
+    tie.close
+    (tie.spec
+    row-fits-requires
+    reading-requires
+    returns
+    fill-in-requires
+    enum-known-j
+    from-filled-requires
+    enum-told
+    reading-requires-2
+    returns-2
+    returns-3)

@@ -1,0 +1,34 @@
+use borrow.Author.Needs.{needs}
+use Rattle.read.proofs.last_refusal.Statement.{statement}
+use Rattle.read.proofs.last_refusal.Tie as tie
+
+operands-fit-requires : tie.Need-operands-fit-requires
+operands-fit-requires c κs = search needs
+
+numbers-in-range-requires : tie.Need-numbers-in-range-requires
+numbers-in-range-requires c κs = search needs
+
+pair-apart-requires : tie.Need-pair-apart-requires
+pair-apart-requires c κs = search needs
+
+reading-requires : tie.Need-reading-requires
+reading-requires c κs = search needs
+
+returns : tie.Need-returns
+returns c =
+    simp (
+      c .reading .ensures,
+      c .before .pair-apart .ensures,
+      c .before .before .numbers-in-range .ensures,
+      c .before .before .before .operands-fit .ensures,
+    )
+
+pub last-refusal-spec : {M : Type 1} → statement M
+last-refusal-spec =
+    tie.close
+    (tie.spec
+    operands-fit-requires
+    numbers-in-range-requires
+    pair-apart-requires
+    reading-requires
+    returns)

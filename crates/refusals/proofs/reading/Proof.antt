@@ -1,0 +1,44 @@
+use mathlib.Core.Path.{_≡_}
+use Prim.Native.Nat.{ℕ}
+use contract.Lifetimes.{Lfts}
+use borrow.Fn.Kinds.{Dens, endedOf}
+use denote.Triple.Clauses.{AtExit}
+use Rattle.base.specs.Promise.{one-outcome}
+use Rattle.refusals.proofs.reading.Reads as reads
+use Rattle.refusals.proofs.reading.Kinds as kinds
+use borrow.Author.Needs.{needs}
+use Rattle.refusals.proofs.reading.Statement.{statement}
+use Rattle.refusals.proofs.reading.Tie as tie
+
+returns : tie.Need-returns
+returns c = search needs
+
+returns-2 : tie.Need-returns-2
+returns-2 c = search needs
+
+returns-3 : tie.Need-returns-3
+returns-3 c = search needs
+
+returns-4 : tie.Need-returns-4
+returns-4 c = search needs
+
+returns-5 : tie.Need-returns-5
+returns-5 c = search needs
+
+returns-6 : tie.Need-returns-6
+returns-6 c = search needs
+
+returns-7 : tie.Need-returns-7
+returns-7 c = search needs
+
+returns-8 : tie.Need-returns-8
+returns-8 c = search needs
+
+pub reading-spec : {M : Type 1} → statement M
+reading-spec = tie.close (tie.spec returns returns-2 returns-3 returns-4 returns-5 returns-6 returns-7 returns-8)
+
+-- no two outcomes satisfy the contract as it stands in src/lib.rt
+pub reading-one-outcome :
+    (κs : Lfts 0) (a : Dens κs kinds.ps) (x y : ℕ) (s t : AtExit (endedOf 0 kinds.ps kinds.r) κs)
+    → reads.Post κs a x s → reads.Post κs a y t → x ≡ y
+reading-one-outcome κs a x y s t p q = one-outcome p q
