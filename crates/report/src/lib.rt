@@ -1,13 +1,16 @@
 // What the listing program prints: a listing's lines, each with its answer, and then the registers that differ from the start.
 use execute::Executed;
 use read::Reading;
+use record::Double;
+use record::Pred;
 use record::Record;
+use record::Word;
 use write::Written;
 ghost use mathlib.Core.Path.{_≡_};
 ghost use mathlib.Core.Bool.{_&&_};
 ghost use Prim.Native.Nat.{_+_, _≤_, _<_};
 ghost use lib.Dec.{ltb, leb};
-ghost use lib.ListN.{length, drop, getD};
+ghost use lib.ListN.{length, drop};
 ghost use Rattle.record.specs.Refusals.{Legal};
 ghost use Rattle.record.specs.Registers.{wordCount};
 ghost use Rattle.rules.specs.Executing.{word, Files, files, done, skipped, run};
@@ -28,6 +31,13 @@ const LINE_ROOM: usize = 98;
 const REGISTERS_ROOM: usize = 2576;
 
 const LINE_FEED: u8 = 10;
+
+// The lengths of the files.
+const WORDS: usize = record::WORDS as usize;
+
+const DOUBLES: usize = record::DOUBLES as usize;
+
+const PREDS: usize = record::PREDS as usize;
 
 // At the start word N is N times this.
 const ONES: u32 = 0x0101_0101;
@@ -264,43 +274,43 @@ fn start_word(n: usize) -> u32
 }
 
 // The registers as they are at the start of a listing.
-pub fn start_words() -> [u32; 64]
+pub fn start_words() -> [u32; WORDS]
     ensures { λ m. ⌜ m ≡ startFiles .words ⌝ }
 {
-    let mut words = [0u32; 64];
+    let mut words = [0u32; WORDS];
     let mut k = 0;
-    while k < 64 {
+    while k < WORDS {
         words[k] = start_word(k);
         k += 1;
     }
     words
 }
 
-pub fn start_doubles() -> [u64; 32]
+pub fn start_doubles() -> [u64; DOUBLES]
     ensures { λ m. ⌜ m ≡ startFiles .doubles ⌝ }
 {
-    let mut doubles = [0u64; 32];
+    let mut doubles = [0u64; DOUBLES];
     let mut k = 0;
-    while k < 32 {
+    while k < DOUBLES {
         doubles[k] = k as u64;
         k += 1;
     }
     doubles
 }
 
-pub fn start_preds() -> [u8; 16]
+pub fn start_preds() -> [u8; PREDS]
     ensures { λ m. ⌜ m ≡ startFiles .preds ⌝ }
 {
-    [0u8; 16]
+    [0u8; PREDS]
 }
 
 fn count(file: File) -> usize
     ensures { λ m. ⌜ m ≡ countOf file ⌝ }
 {
     match file {
-        File::Words => 64,
-        File::Doubles => 32,
-        File::Preds => 16,
+        File::Words => WORDS,
+        File::Doubles => DOUBLES,
+        File::Preds => PREDS,
     }
 }
 
@@ -325,31 +335,14 @@ fn start_value(file: File, k: usize) -> u64
     }
 }
 
-fn word_at(words: &[u32], k: usize) -> u32
-    ensures { λ m. ⌜ m ≡ getD (now (words .entry)) k 0 ⌝ }
-{
-    if k < words.len() { words[k] } else { 0 }
-}
-
-fn double_at(doubles: &[u64], k: usize) -> u64
-    ensures { λ m. ⌜ m ≡ getD (now (doubles .entry)) k 0 ⌝ }
-{
-    if k < doubles.len() { doubles[k] } else { 0 }
-}
-
-fn pred_at(preds: &[u8], k: usize) -> u8
-    ensures { λ m. ⌜ m ≡ getD (now (preds .entry)) k 0 ⌝ }
-{
-    if k < preds.len() { preds[k] } else { 0 }
-}
-
 fn value(file: File, k: usize, words: &[u32], doubles: &[u64], preds: &[u8]) -> u64
+    requires { ⌜ k < countOf file ⌝ }
     ensures { λ m. ⌜ m ≡ execution.at (files (now (words .entry)) (now (doubles .entry)) (now (preds .entry))) (placeOf file k) ⌝ }
 {
     match file {
-        File::Words => word_at(words, k) as u64,
-        File::Doubles => double_at(doubles, k),
-        File::Preds => pred_at(preds, k) as u64,
+        File::Words => registers::word_at(words, Word(k as u16)) as u64,
+        File::Doubles => registers::double_at(doubles, Double(k as u16)),
+        File::Preds => registers::pred_at(preds, Pred(k as u16)) as u64,
     }
 }
 

@@ -26,7 +26,7 @@ unfolding changesText
 loop-holds c = (search needs, search needs, same _)
 
 value-requires : tie.Need-value-requires Inv-loop μ-loop
-value-requires c κs = search needs
+value-requires c κs = rw (← c .before .before .count .ensures) (c .loop-test .taken)
 
 put-change-requires : tie.Need-put-change-requires Inv-loop μ-loop
 put-change-requires c κs = rw (← c .before .before .before .before .count .ensures) (c .before .before .loop-test .taken)

@@ -1,9 +1,13 @@
+use native.Mathlib.Omega.{arith}
 use borrow.Author.Needs.{needs}
 use Rattle.report.proofs.value.Statement.{statement}
 use Rattle.report.proofs.value.Tie as tie
 
 enum-told : tie.Need-enum-told
 enum-told c = search needs
+
+cast-t8 : tie.Need-cast-t8
+cast-t8 c = let h = rw (c .enum-told .given .1) at (c .before .before .before .before .before .pre) in omega arith
 
 word-at-requires : tie.Need-word-at-requires
 word-at-requires c κs = search needs
@@ -14,11 +18,17 @@ cast-result c = search needs
 enum-told-2 : tie.Need-enum-told-2
 enum-told-2 c = search needs
 
+cast-t10 : tie.Need-cast-t10
+cast-t10 c = let h = rw (c .enum-told2 .given .1) at (c .before .before .before .before .before .pre) in omega arith
+
 double-at-requires : tie.Need-double-at-requires
 double-at-requires c κs = search needs
 
 enum-told-3 : tie.Need-enum-told-3
 enum-told-3 c = search needs
+
+cast-t13 : tie.Need-cast-t13
+cast-t13 c = let h = rw (c .enum-told3 .given .1) at (c .before .before .before .before .before .pre) in omega arith
 
 pred-at-requires : tie.Need-pred-at-requires
 pred-at-requires c κs = search needs
@@ -40,11 +50,14 @@ value-spec =
     tie.close
     (tie.spec
     enum-told
+    cast-t8
     word-at-requires
     cast-result
     enum-told-2
+    cast-t10
     double-at-requires
     enum-told-3
+    cast-t13
     pred-at-requires
     cast-result-2
     returns
