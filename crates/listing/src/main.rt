@@ -1,7 +1,7 @@
-// The listing program: reads standard input and prints what crate `report` makes of it, some lines at a time, then the registers.
+// The listing program: reads standard input and prints what crates `report` and `changes` make of it, some lines at a time, then the registers.
+use changes::Printed;
 use libc::STDIN_FILENO;
 use libc::STDOUT_FILENO;
-use report::Printed;
 ghost use Prim.Native.Nat.{_≤_};
 ghost use mathlib.Core.Path.{_≡_};
 ghost use mathlib.Core.Bool.{true};
@@ -47,15 +47,15 @@ fn say_lines(
 
 fn say_registers(words: &[u32], doubles: &[u64], preds: &[u8], out: &mut [u8]) {
     // The caller's buffer is longer than all registers' texts, so there is room.
-    if let Printed::Length(n) = report::registers(words, doubles, preds, out) {
+    if let Printed::Length(n) = changes::registers(words, doubles, preds, out) {
         say_first(out, n);
     }
 }
 
 fn say_listing(listing: &[u8]) {
-    let mut words = report::start_words();
-    let mut doubles = report::start_doubles();
-    let mut preds = report::start_preds();
+    let mut words = changes::start_words();
+    let mut doubles = changes::start_doubles();
+    let mut preds = changes::start_preds();
     let mut out = [0u8; 65536];
     if say_lines(listing, &mut words, &mut doubles, &mut preds, &mut out) {
         say_registers(&words, &doubles, &preds, &mut out);

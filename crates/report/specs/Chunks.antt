@@ -11,7 +11,8 @@ use Rattle.rules.specs.LineLengths.{longestLine}
 use Rattle.rules.specs.Reading.{Answer, Answers}
 use Rattle.text.specs.Buffer.{Buffer, Puts}
 use Rattle.text.specs.Digits.{mostDigits}
-use Rattle.report.specs.Listing.{lineFeed, answerText, filesAfter, Turn, listingLimit, tooLongText}
+use Rattle.report.specs.Listing.{answerText, filesAfter, Turn, listingLimit, tooLongText}
+use Rattle.changes.specs.Changes.{lineFeed}
 
 -- how many bytes stand before the first line feed, or all
 unfoldable pub lineLength : List ℕ → ℕ

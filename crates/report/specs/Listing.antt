@@ -1,24 +1,18 @@
 -- Document 01, the listing program (under "Bench figures"): what it prints of a listing.
-use Prim.Native.Nat.{ℕ, zero, suc, _*_, _≤_, _<_}
+use Prim.Native.Nat.{ℕ, suc, _≤_, _<_}
 use mathlib.Core.Path.{_≡_}
 use mathlib.Core.Bool.{cond}
 use mathlib.Core.List.{List, [], _∷_, _++_}
 use lib.ListN.{length}
 use lib.Dec.{eqb}
-use Rattle.base.specs.Lists.{tab}
 use Rattle.base.specs.Text.{bytes}
-use Rattle.record.specs.Registers.{wordCount, doubleCount, predCount}
 use Rattle.record.specs.declared.Record.{Record}
-use Rattle.rules.specs.Executing.{Files, files, Place, word, double, pred, done, skipped, run}
+use Rattle.rules.specs.Executing.{Files, done, skipped, run}
 use Rattle.rules.specs.Executing as executing
-use Rattle.rules.specs.ExecutionLaws.{at}
-use Rattle.rules.specs.Shape.{registerText}
 use Rattle.rules.specs.StandardLine.{standard}
 use Rattle.rules.specs.Reading.{Answer, read, refused, Answers}
-use Rattle.text.specs.Digits.{decimal, hex}
-
-abbrev pub lineFeed : ℕ
-lineFeed = 10
+use Rattle.text.specs.Digits.{decimal}
+use Rattle.changes.specs.Changes.{lineFeed, startFiles, registersText}
 
 -- The listing program reads standard input, at most 65,536 bytes
 abbrev pub listingLimit : ℕ
@@ -77,42 +71,6 @@ pub record Turn (n : ℕ) (l : List ℕ) (f : Files) (t : List ℕ) (g : Files) 
 pub data Turns : ℕ → List (List ℕ) → Files → List ℕ → Files → Type 0 where
   none : {n : ℕ} {f : Files} → Turns n [] f [] f
   more : {n : ℕ} {l : List ℕ} {ls : List (List ℕ)} {f g h : Files} {t u : List ℕ} → Turn n l f t g → Turns (suc n) ls g u h → Turns n (l ∷ ls) f (t ++ u) h
-
--- ==== the registers
-
--- the number that is 01010101 hex
-abbrev pub ones : ℕ
-ones = 16843009
-
--- At the start `%rN` is N times 01010101 hex, `%rdN` is N, predicates 0
-abbrev pub startValue : Place → ℕ
-startValue (word n) = n * ones
-startValue (double n) = n
-startValue (pred n) = 0
-
-unfoldable pub startFiles : Files
-startFiles = files (tab wordCount (λ n. startValue (word n))) (tab doubleCount (λ n. startValue (double n))) (tab predCount (λ n. startValue (pred n)))
-
--- `%r` (8 hex digits, capitals), `%rd` (16), `%p`
-abbrev pub digitsOf : Place → ℕ
-digitsOf (word n) = 8
-digitsOf (double n) = 16
-digitsOf (pred n) = 1
-
-abbrev pub valueText : Place → ℕ → List ℕ
-valueText p v = registerText p ++ bytes " " ++ hex (digitsOf p) v ++ (lineFeed ∷ [])
-
--- the registers whose value differs from the start
-unfoldable pub changeText : Place → ℕ → List ℕ
-changeText p v = cond (eqb v (startValue p)) [] (valueText p v)
-
--- the first k registers of a file, numbers rising
-unfoldable pub changesText : (ℕ → Place) → ℕ → Files → List ℕ
-changesText file zero f = []
-changesText file (suc k) f = changesText file k f ++ changeText (file k) (at f (file k))
-
-unfoldable pub registersText : Files → List ℕ
-registersText f = changesText word wordCount f ++ changesText double doubleCount f ++ changesText pred predCount f
 
 -- ==== the whole output
 

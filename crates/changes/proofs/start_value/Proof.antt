@@ -1,0 +1,40 @@
+use borrow.Author.Needs.{needs}
+use Rattle.changes.proofs.start_value.Statement.{statement}
+use Rattle.changes.proofs.start_value.Tie as tie
+
+enum-told : tie.Need-enum-told
+enum-told c = search needs
+
+start-word-requires : tie.Need-start-word-requires
+start-word-requires c κs = rw (c .enum-told .given .1) at (c .before .before .pre)
+
+cast-result : tie.Need-cast-result
+cast-result c = search needs
+
+enum-told-2 : tie.Need-enum-told-2
+enum-told-2 c = search needs
+
+enum-told-3 : tie.Need-enum-told-3
+enum-told-3 c = search needs
+
+returns : tie.Need-returns
+returns c = rw (c .before .enum-told .given .1) (c .start-word .ensures)
+
+returns-2 : tie.Need-returns-2
+returns-2 c = search needs
+
+returns-3 : tie.Need-returns-3
+returns-3 c = search needs
+
+pub start-value-spec : {M : Type 1} → statement M
+start-value-spec =
+    tie.close
+    (tie.spec
+    enum-told
+    start-word-requires
+    cast-result
+    enum-told-2
+    enum-told-3
+    returns
+    returns-2
+    returns-3)
