@@ -122,12 +122,10 @@ fn from_row(g: Guarding, i: Instruction, operands: Operands) -> Reading
     if !row_fits(i) {
         return Reading::Refused(refusals::reading(false, false, false, true, true, true, true));
     }
-    match fills::fill_in(i, operands) {
-        Filled::Full(j) => from_filled(g, j),
-        Filled::Wrong(_) => {
-            Reading::Refused(refusals::reading(false, false, false, false, true, true, true))
-        }
-    }
+    let Filled::Full(j) = fills::fill_in(i, operands) else {
+        return Reading::Refused(refusals::reading(false, false, false, false, true, true, true));
+    };
+    from_filled(g, j)
 }
 
 fn from_parts(x: Parts) -> Reading
@@ -137,12 +135,14 @@ fn from_parts(x: Parts) -> Reading
     let head = x.head;
     let operands = x.operands;
     match heads::row(head) {
-        Found::Row(i) => from_row(g, i, operands),
+        Found::Row(i) => {
+            return from_row(g, i, operands);
+        }
         Found::NoOpcode => {
-            Reading::Refused(refusals::reading(false, false, true, true, true, true, true))
+            return Reading::Refused(refusals::reading(false, false, true, true, true, true, true));
         }
         Found::Wrong(_) => {
-            Reading::Refused(refusals::reading(false, false, false, true, true, true, true))
+            return Reading::Refused(refusals::reading(false, false, false, true, true, true, true));
         }
     }
 }

@@ -12,18 +12,6 @@ enum-known-i c = search needs
 from-row-requires : tie.Need-from-row-requires
 from-row-requires c κs = search needs
 
-enum-told : tie.Need-enum-told
-enum-told c = search needs
-
-reading-requires : tie.Need-reading-requires
-reading-requires c κs = search needs
-
-enum-told-2 : tie.Need-enum-told-2
-enum-told-2 c = search needs
-
-reading-requires-2 : tie.Need-reading-requires-2
-reading-requires-2 c κs = search needs
-
 returns : tie.Need-returns
 unfolding candidateOf
 returns c =
@@ -33,6 +21,12 @@ returns c =
       c .before .before .i .given .1,
     )
 
+enum-told : tie.Need-enum-told
+enum-told c = search needs
+
+reading-requires : tie.Need-reading-requires
+reading-requires c κs = search needs
+
 returns-2 : tie.Need-returns-2
 unfolding candidateOf
 returns-2 c =
@@ -41,6 +35,12 @@ returns-2 c =
       ← c .before .before .before .row .ensures,
       c .before .enum-told .given .1,
     )
+
+enum-told-2 : tie.Need-enum-told-2
+enum-told-2 c = search needs
+
+reading-requires-2 : tie.Need-reading-requires-2
+reading-requires-2 c κs = search needs
 
 returns-3 : tie.Need-returns-3
 unfolding candidateOf
@@ -58,10 +58,10 @@ from-parts-spec =
     row-requires
     enum-known-i
     from-row-requires
+    returns
     enum-told
     reading-requires
+    returns-2
     enum-told-2
     reading-requires-2
-    returns
-    returns-2
     returns-3)

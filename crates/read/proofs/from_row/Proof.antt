@@ -24,9 +24,6 @@ fill-in-requires c κs = search needs
 enum-known-j : tie.Need-enum-known-j
 enum-known-j c = search needs
 
-from-filled-requires : tie.Need-from-filled-requires
-from-filled-requires c κs = search needs
-
 enum-told : tie.Need-enum-told
 enum-told c = search needs
 
@@ -35,17 +32,6 @@ reading-requires-2 c κs = search needs
 
 returns-2 : tie.Need-returns-2
 returns-2 c =
-    let g = c .before .before .before .before .before .before .before .args .g in
-    simp (
-      c .from-filled .ensures,
-      passed (c .before .before .before .before .before .before .row-fits .ensures) (c .before .before .before .before .before .if1 .left),
-      ← c .before .before .before .before .fill-in .ensures,
-      c .before .before .j .given .1,
-    )
-    (ends-full (guardGood g) (recordOf (guardIn g) (c .before .before .j .given .0 .0)))
-
-returns-3 : tie.Need-returns-3
-returns-3 c =
     let g = c .before .before .before .before .before .before .args .g in
     simp (
       c .reading2 .ensures,
@@ -54,6 +40,20 @@ returns-3 c =
       c .before .enum-told .given .1,
     )
     (ends-wrong (guardGood g) (recordOf (guardIn g) noInstruction))
+
+from-filled-requires : tie.Need-from-filled-requires
+from-filled-requires c κs = search needs
+
+returns-3 : tie.Need-returns-3
+returns-3 c =
+    let g = c .before .before .before .before .before .before .before .args .g in
+    simp (
+      c .from-filled .ensures,
+      passed (c .before .before .before .before .before .before .row-fits .ensures) (c .before .before .before .before .before .if1 .left),
+      ← c .before .before .before .before .fill-in .ensures,
+      c .before .before .j .given .1,
+    )
+    (ends-full (guardGood g) (recordOf (guardIn g) (c .before .before .j .given .0 .0)))
 
 pub from-row-spec : {M : Type 1} → statement M
 from-row-spec =
@@ -64,8 +64,8 @@ from-row-spec =
     returns
     fill-in-requires
     enum-known-j
-    from-filled-requires
     enum-told
     reading-requires-2
     returns-2
+    from-filled-requires
     returns-3)
