@@ -485,7 +485,12 @@ fn comparison_of(s: Comparison, o: Operands) -> ComparisonFound
     let k = s.combination;
     let a = kinds::bare_operand(tree_at(o, 1));
     let b = kinds::bare_operand(tree_at(o, 2));
-    comparison_by(s, a, b, combination_of(k, n, kinds::condition_of(tree_at(o, 3))))
+    comparison_by(
+        s,
+        a,
+        b,
+        combination_of(k, n, kinds::condition_of(tree_at(o, 3))),
+    )
 }
 
 // ---- selp, slct
