@@ -26,8 +26,8 @@ use Rattle.text.specs.Digits.{decimal, one-digit, more-digits, hex, hex-length}
 use Rattle.changes.specs.Changes.{lineFeed, startValue, digitsOf, valueText, changeText, changesText, registersText}
 use Rattle.changes.specs.Registers.{placeOf, countOf, prefixOf, valueRoom, registersRoom, printed, printing}
 use Rattle.changes.specs.Registers as registers
-use Rattle.changes.specs.declared.File.{File}
-use Rattle.changes.specs.declared.File.the-variants.{Words, Doubles, Preds}
+use Rattle.record.specs.declared.File.{File}
+use Rattle.record.specs.declared.File.the-variants.{Words, Doubles, Preds}
 
 -- ==== a register
 

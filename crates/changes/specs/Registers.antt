@@ -10,8 +10,8 @@ use Rattle.record.specs.Registers.{wordCount, doubleCount, predCount}
 use Rattle.rules.specs.Executing.{Files, Place, word, double, pred}
 use Rattle.rules.specs.Writing.{front}
 use Rattle.changes.specs.Changes.{registersText}
-use Rattle.changes.specs.declared.File.{File}
-use Rattle.changes.specs.declared.File.the-variants.{Words, Doubles, Preds}
+use Rattle.record.specs.declared.File.{File}
+use Rattle.record.specs.declared.File.the-variants.{Words, Doubles, Preds}
 use Rattle.changes.specs.declared.Printed.{Printed}
 use Rattle.changes.specs.declared.Printed.the-variants.{Length, NoRoom}
 

@@ -1,5 +1,6 @@
 // The registers at the start of a listing, and what is printed of those that differ from it at the end.
 use record::Double;
+use record::File;
 use record::Pred;
 use record::Word;
 ghost use mathlib.Core.Path.{_≡_};
@@ -30,13 +31,6 @@ const ONES: u32 = 0x0101_0101;
 pub enum Printed {
     Length(usize),
     NoRoom,
-}
-
-// The three lent files.
-enum File {
-    Words,
-    Doubles,
-    Preds,
 }
 
 fn start_word(n: usize) -> u32

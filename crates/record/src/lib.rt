@@ -8,6 +8,13 @@ pub struct Double(pub u16);
 
 pub struct Pred(pub u16);
 
+// The three lent files.
+pub enum File {
+    Words,
+    Doubles,
+    Preds,
+}
+
 // The sizes of the files.
 pub const WORDS: u16 = 64;
 

@@ -20,8 +20,8 @@ use Rattle.scan.specs.NumberLaws.{number-complete, number-first, number-
 use Rattle.scan.specs.Registers.{prefixBy, placeIn, numbered, registerBy, registerOf}
 use Rattle.scan.specs.declared.Number.{Number}
 use Rattle.scan.specs.declared.Number.the-variants as number
-use Rattle.scan.specs.declared.File.{File}
-use Rattle.scan.specs.declared.File.the-variants.{Words, Doubles, Preds}
+use Rattle.record.specs.declared.File.{File}
+use Rattle.record.specs.declared.File.the-variants.{Words, Doubles, Preds}
 use Rattle.scan.specs.declared.Prefix.{Prefix}
 use Rattle.scan.specs.declared.Prefix.the-variants.{Of, Not}
 use Rattle.scan.specs.declared.Register.the-variants.{Got, Bad}

@@ -9,8 +9,8 @@ use Rattle.tree.specs.declared.Place.the-variants.{Word, Double, Pred}
 use Rattle.scan.specs.Numbers.{numberOf}
 use Rattle.scan.specs.declared.Number.{Number}
 use Rattle.scan.specs.declared.Number.the-variants as number
-use Rattle.scan.specs.declared.File.{File}
-use Rattle.scan.specs.declared.File.the-variants.{Words, Doubles, Preds}
+use Rattle.record.specs.declared.File.{File}
+use Rattle.record.specs.declared.File.the-variants.{Words, Doubles, Preds}
 use Rattle.scan.specs.declared.Prefix.{Prefix}
 use Rattle.scan.specs.declared.Prefix.the-variants.{Of, Not}
 use Rattle.scan.specs.declared.Register.{Register}

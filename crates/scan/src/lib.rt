@@ -1,6 +1,7 @@
 // What stands at the front of a slice of a line: runs of bytes, names as numbers, registers. Every function takes every slice; a length
 // that it answers counts from the front of the slice that it is lent.
 use record::Double;
+use record::File;
 use record::Pred;
 use record::Word;
 use tree::Place;
@@ -176,13 +177,6 @@ fn digit(b: u8) -> u8
         return 0;
     }
     (b - b'0') % 10
-}
-
-// The three files of registers.
-enum File {
-    Words,
-    Doubles,
-    Preds,
 }
 
 // The front of a register: its file and how many bytes; or the place of the first byte that is wrong.
