@@ -572,13 +572,13 @@ fn arithmetic_from(op: Arith, dtype: VideoType, sat: bool, s: ScalarFound) -> Fi
     ensures { λ r. ⌜ r ≡ arithmeticFrom op dtype sat s ⌝ }
 {
     match s {
-        ScalarFound::Is(scalar) => Filled::Full(Instruction::Arithmetic {
+        ScalarFound::Is(scalar) => return Filled::Full(Instruction::Arithmetic {
             op,
             dtype,
             sat,
             scalar,
         }),
-        ScalarFound::Wrong(k) => Filled::Wrong(k),
+        ScalarFound::Wrong(k) => return Filled::Wrong(k),
     }
 }
 
@@ -586,8 +586,8 @@ fn vset_from(cmp: Cmp6, s: ScalarFound) -> Filled
     ensures { λ r. ⌜ r ≡ vsetFrom cmp s ⌝ }
 {
     match s {
-        ScalarFound::Is(scalar) => Filled::Full(Instruction::Vset { cmp, scalar }),
-        ScalarFound::Wrong(k) => Filled::Wrong(k),
+        ScalarFound::Is(scalar) => return Filled::Full(Instruction::Vset { cmp, scalar }),
+        ScalarFound::Wrong(k) => return Filled::Wrong(k),
     }
 }
 
@@ -595,8 +595,8 @@ fn lanes_from(cmp: Cmp6, l: LanesFound) -> Filled
     ensures { λ r. ⌜ r ≡ lanesFrom cmp l ⌝ }
 {
     match l {
-        LanesFound::Is(lanes) => Filled::Full(Instruction::VsetLanes { cmp, lanes }),
-        LanesFound::Wrong(k) => Filled::Wrong(k),
+        LanesFound::Is(lanes) => return Filled::Full(Instruction::VsetLanes { cmp, lanes }),
+        LanesFound::Wrong(k) => return Filled::Wrong(k),
     }
 }
 
@@ -607,12 +607,12 @@ fn set_from(dtype: SetType, d: WordFound, s: ComparisonFound) -> Filled
         return Filled::Wrong(0);
     };
     match s {
-        ComparisonFound::Is(comparison) => Filled::Full(Instruction::Set {
+        ComparisonFound::Is(comparison) => return Filled::Full(Instruction::Set {
             dtype,
             d: w,
             comparison,
         }),
-        ComparisonFound::Wrong(k) => Filled::Wrong(k),
+        ComparisonFound::Wrong(k) => return Filled::Wrong(k),
     }
 }
 
@@ -623,8 +623,11 @@ fn setp_from(d: DestinationFound, s: ComparisonFound) -> Filled
         return Filled::Wrong(0);
     };
     match s {
-        ComparisonFound::Is(comparison) => Filled::Full(Instruction::Setp { d: p, comparison }),
-        ComparisonFound::Wrong(k) => Filled::Wrong(k),
+        ComparisonFound::Is(comparison) => return Filled::Full(Instruction::Setp {
+            d: p,
+            comparison,
+        }),
+        ComparisonFound::Wrong(k) => return Filled::Wrong(k),
     }
 }
 
@@ -633,10 +636,10 @@ fn selp_from(s: ChoiceFound, last: LastPred) -> Filled
 {
     match s {
         ChoiceFound::Is(choice) => match last {
-            LastPred::Is(c) => Filled::Full(Instruction::Selp { choice, c }),
-            LastPred::Wrong(k) => Filled::Wrong(k),
+            LastPred::Is(c) => return Filled::Full(Instruction::Selp { choice, c }),
+            LastPred::Wrong(k) => return Filled::Wrong(k),
         },
-        ChoiceFound::Wrong(k) => Filled::Wrong(k),
+        ChoiceFound::Wrong(k) => return Filled::Wrong(k),
     }
 }
 
@@ -645,10 +648,10 @@ fn slct_from(ctype: SlctType, s: ChoiceFound, last: LastFound) -> Filled
 {
     match s {
         ChoiceFound::Is(choice) => match last {
-            LastFound::Is(c) => Filled::Full(Instruction::Slct { ctype, choice, c }),
-            LastFound::Wrong(k) => Filled::Wrong(k),
+            LastFound::Is(c) => return Filled::Full(Instruction::Slct { ctype, choice, c }),
+            LastFound::Wrong(k) => return Filled::Wrong(k),
         },
-        ChoiceFound::Wrong(k) => Filled::Wrong(k),
+        ChoiceFound::Wrong(k) => return Filled::Wrong(k),
     }
 }
 
@@ -661,27 +664,27 @@ pub fn fill_in(i: Instruction, operands: Operands) -> Filled
             dtype,
             sat,
             scalar,
-        } => arithmetic_from(op, dtype, sat, scalar_of(scalar, operands)),
-        Instruction::Vset { cmp, scalar } => vset_from(cmp, scalar_of(scalar, operands)),
-        Instruction::VsetLanes { cmp, lanes } => lanes_from(cmp, lanes_of(lanes, operands)),
+        } => return arithmetic_from(op, dtype, sat, scalar_of(scalar, operands)),
+        Instruction::Vset { cmp, scalar } => return vset_from(cmp, scalar_of(scalar, operands)),
+        Instruction::VsetLanes { cmp, lanes } => return lanes_from(cmp, lanes_of(lanes, operands)),
         Instruction::Set {
             dtype,
             comparison,
             ..
-        } => set_from(
+        } => return set_from(
             dtype,
             first_word(operands),
             comparison_of(comparison, operands),
         ),
-        Instruction::Setp { comparison, .. } => setp_from(
+        Instruction::Setp { comparison, .. } => return setp_from(
             first_destination(operands),
             comparison_of(comparison, operands),
         ),
-        Instruction::Selp { choice, .. } => selp_from(
+        Instruction::Selp { choice, .. } => return selp_from(
             choice_of(choice, operands),
             last_pred(operands),
         ),
-        Instruction::Slct { ctype, choice, .. } => slct_from(
+        Instruction::Slct { ctype, choice, .. } => return slct_from(
             ctype,
             choice_of(choice, operands),
             last_word(operands),

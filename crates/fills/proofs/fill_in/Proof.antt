@@ -20,6 +20,15 @@ scalar-of-requires c κs = search needs
 arithmetic-from-requires : tie.Need-arithmetic-from-requires
 arithmetic-from-requires c κs = search needs
 
+returns : tie.Need-returns
+unfolding filledOf
+returns c =
+    simp (
+      c .arithmetic-from .ensures,
+      c .before .scalar-of .ensures,
+      c .before .before .before .i .given .1,
+    )
+
 enum-known-i-2 : tie.Need-enum-known-i-2
 enum-known-i-2 c = search needs
 
@@ -29,6 +38,15 @@ scalar-of-requires-2 c κs = search needs
 vset-from-requires : tie.Need-vset-from-requires
 vset-from-requires c κs = search needs
 
+returns-2 : tie.Need-returns-2
+unfolding filledOf
+returns-2 c =
+    simp (
+      c .vset-from .ensures,
+      c .before .scalar-of2 .ensures,
+      c .before .before .before .i2 .given .1,
+    )
+
 enum-known-i-3 : tie.Need-enum-known-i-3
 enum-known-i-3 c = search needs
 
@@ -37,6 +55,15 @@ lanes-of-requires c κs = search needs
 
 lanes-from-requires : tie.Need-lanes-from-requires
 lanes-from-requires c κs = search needs
+
+returns-3 : tie.Need-returns-3
+unfolding filledOf
+returns-3 c =
+    simp (
+      c .lanes-from .ensures,
+      c .before .lanes-of .ensures,
+      c .before .before .before .i3 .given .1,
+    )
 
 enum-known-i-4 : tie.Need-enum-known-i-4
 enum-known-i-4 c = search needs
@@ -50,6 +77,16 @@ comparison-of-requires c κs = search needs
 set-from-requires : tie.Need-set-from-requires
 set-from-requires c κs = search needs
 
+returns-4 : tie.Need-returns-4
+unfolding filledOf
+returns-4 c =
+    simp (
+      c .set-from .ensures,
+      c .before .comparison-of .ensures,
+      c .before .before .first-word .ensures,
+      c .before .before .before .before .i4 .given .1,
+    )
+
 enum-known-i-5 : tie.Need-enum-known-i-5
 enum-known-i-5 c = search needs
 
@@ -61,6 +98,16 @@ comparison-of-requires-2 c κs = search needs
 
 setp-from-requires : tie.Need-setp-from-requires
 setp-from-requires c κs = search needs
+
+returns-5 : tie.Need-returns-5
+unfolding filledOf
+returns-5 c =
+    simp (
+      c .setp-from .ensures,
+      c .before .comparison-of2 .ensures,
+      c .before .before .first-destination .ensures,
+      c .before .before .before .before .i5 .given .1,
+    )
 
 enum-known-i-6 : tie.Need-enum-known-i-6
 enum-known-i-6 c = search needs
@@ -74,6 +121,16 @@ last-pred-requires c κs = search needs
 selp-from-requires : tie.Need-selp-from-requires
 selp-from-requires c κs = search needs
 
+returns-6 : tie.Need-returns-6
+unfolding filledOf
+returns-6 c =
+    simp (
+      c .selp-from .ensures,
+      c .before .last-pred .ensures,
+      c .before .before .choice-of .ensures,
+      c .before .before .before .before .i6 .given .1,
+    )
+
 enum-known-i-7 : tie.Need-enum-known-i-7
 enum-known-i-7 c = search needs
 
@@ -85,63 +142,6 @@ last-word-requires c κs = search needs
 
 slct-from-requires : tie.Need-slct-from-requires
 slct-from-requires c κs = search needs
-
-returns : tie.Need-returns
-unfolding filledOf
-returns c =
-    simp (
-      c .arithmetic-from .ensures,
-      c .before .scalar-of .ensures,
-      c .before .before .before .i .given .1,
-    )
-
-returns-2 : tie.Need-returns-2
-unfolding filledOf
-returns-2 c =
-    simp (
-      c .vset-from .ensures,
-      c .before .scalar-of2 .ensures,
-      c .before .before .before .i2 .given .1,
-    )
-
-returns-3 : tie.Need-returns-3
-unfolding filledOf
-returns-3 c =
-    simp (
-      c .lanes-from .ensures,
-      c .before .lanes-of .ensures,
-      c .before .before .before .i3 .given .1,
-    )
-
-returns-4 : tie.Need-returns-4
-unfolding filledOf
-returns-4 c =
-    simp (
-      c .set-from .ensures,
-      c .before .comparison-of .ensures,
-      c .before .before .first-word .ensures,
-      c .before .before .before .before .i4 .given .1,
-    )
-
-returns-5 : tie.Need-returns-5
-unfolding filledOf
-returns-5 c =
-    simp (
-      c .setp-from .ensures,
-      c .before .comparison-of2 .ensures,
-      c .before .before .first-destination .ensures,
-      c .before .before .before .before .i5 .given .1,
-    )
-
-returns-6 : tie.Need-returns-6
-unfolding filledOf
-returns-6 c =
-    simp (
-      c .selp-from .ensures,
-      c .before .last-pred .ensures,
-      c .before .before .choice-of .ensures,
-      c .before .before .before .before .i6 .given .1,
-    )
 
 returns-7 : tie.Need-returns-7
 unfolding filledOf
@@ -160,34 +160,34 @@ fill-in-spec =
     enum-known-i
     scalar-of-requires
     arithmetic-from-requires
+    returns
     enum-known-i-2
     scalar-of-requires-2
     vset-from-requires
+    returns-2
     enum-known-i-3
     lanes-of-requires
     lanes-from-requires
+    returns-3
     enum-known-i-4
     first-word-requires
     comparison-of-requires
     set-from-requires
+    returns-4
     enum-known-i-5
     first-destination-requires
     comparison-of-requires-2
     setp-from-requires
+    returns-5
     enum-known-i-6
     choice-of-requires
     last-pred-requires
     selp-from-requires
+    returns-6
     enum-known-i-7
     choice-of-requires-2
     last-word-requires
     slct-from-requires
-    returns
-    returns-2
-    returns-3
-    returns-4
-    returns-5
-    returns-6
     returns-7)
 
 -- no two outcomes satisfy the contract as it stands in src/lib.rt

@@ -8,12 +8,6 @@ enum-known-s c = search needs
 enum-known-last : tie.Need-enum-known-last
 enum-known-last c = search needs
 
-enum-known-last-2 : tie.Need-enum-known-last-2
-enum-known-last-2 c = search needs
-
-enum-known-s-2 : tie.Need-enum-known-s-2
-enum-known-s-2 c = search needs
-
 returns : tie.Need-returns
 returns c =
     simp (
@@ -21,12 +15,18 @@ returns c =
       c .before .before .before .before .s .given .1,
     )
 
+enum-known-last-2 : tie.Need-enum-known-last-2
+enum-known-last-2 c = search needs
+
 returns-2 : tie.Need-returns-2
 returns-2 c =
     simp (
       c .before .last2 .given .1,
       c .before .before .before .before .s .given .1,
     )
+
+enum-known-s-2 : tie.Need-enum-known-s-2
+enum-known-s-2 c = search needs
 
 returns-3 : tie.Need-returns-3
 returns-3 c =
@@ -39,8 +39,8 @@ selp-from-spec =
     (tie.spec
     enum-known-s
     enum-known-last
-    enum-known-last-2
-    enum-known-s-2
     returns
+    enum-known-last-2
     returns-2
+    enum-known-s-2
     returns-3)
