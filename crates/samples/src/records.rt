@@ -34,7 +34,6 @@ use record::SlctType;
 use record::VideoType;
 use record::Word;
 
-
 // ---- the numbers of a line
 
 // The first three numbers, of which count are read, and the last eighteen: t1 is the last. What kinds share stands at the end of a line.
@@ -383,49 +382,49 @@ fn instruction(kind: u16, f: Fields) -> Instruction {
     match kind {
         0 => {
             return Instruction::Arithmetic {
-            op: arith(f.t13),
-            dtype: video_type(f.t12),
-            sat: f.t11 == 1,
-            scalar: scalar(f),
-        };
+                op: arith(f.t13),
+                dtype: video_type(f.t12),
+                sat: f.t11 == 1,
+                scalar: scalar(f),
+            };
         }
         1 => {
             return Instruction::Vset {
-            cmp: cmp6(f.t11),
-            scalar: scalar(f),
-        };
+                cmp: cmp6(f.t11),
+                scalar: scalar(f),
+            };
         }
         2 => {
             return Instruction::VsetLanes {
-            cmp: cmp6(f.t17),
-            lanes: lanes(f),
-        };
+                cmp: cmp6(f.t17),
+                lanes: lanes(f),
+            };
         }
         3 => {
             return Instruction::Set {
-            dtype: set_type(f.t12),
-            d: Word(f.t11),
-            comparison: comparison(f),
-        };
+                dtype: set_type(f.t12),
+                d: Word(f.t11),
+                comparison: comparison(f),
+            };
         }
         4 => {
             return Instruction::Setp {
-            d: destination(f.t13, f.t12, f.t11),
-            comparison: comparison(f),
-        };
+                d: destination(f.t13, f.t12, f.t11),
+                comparison: comparison(f),
+            };
         }
         5 => {
             return Instruction::Selp {
-            choice: choice(f),
-            c: Pred(f.t1),
-        };
+                choice: choice(f),
+                c: Pred(f.t1),
+            };
         }
         _ => {
             return Instruction::Slct {
-            ctype: slct_type(f.t9),
-            choice: choice(f),
-            c: Word(f.t1),
-        };
+                ctype: slct_type(f.t9),
+                choice: choice(f),
+                c: Word(f.t1),
+            };
         }
     }
 }

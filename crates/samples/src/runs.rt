@@ -253,7 +253,14 @@ fn end_of(column: usize, columns: usize) -> u8 {
     b'\n'
 }
 
-fn answer_cell(line: &[u8], record: Fields, values: Values, open: usize, row: usize, column: usize) {
+fn answer_cell(
+    line: &[u8],
+    record: Fields,
+    values: Values,
+    open: usize,
+    row: usize,
+    column: usize,
+) {
     let columns = turns(open, values);
     if column < columns {
         let first = values.list[row_or_column(open, row, column) % 32];
