@@ -11,7 +11,7 @@ use borrow.Author.Tests.{le-leb, leb-true, ltb-true, ne-eqb}
 use Rattle.base.specs.Bytes.{isNameByte, All, Some}
 use Rattle.base.specs.Bytes.All.{none, more}
 use Rattle.base.specs.Values.{every}
-use Rattle.base.specs.Pack.{radix, pack, longestName, codeOf, unpackIn, unpacked, isPlain, isShortName, CodeOf, Spells}
+use Rattle.base.specs.Pack.{radix, pack, longestName, codeOf, unpackIn, unpacked, isPlain, isShortName, Spells}
 
 -- ==== the names of the reader: a name that is kept as the number of a short name is that name
 

@@ -13,9 +13,7 @@ use record::Choice;
 use record::Cmp6;
 use record::Combination;
 use record::Comparison;
-use record::Condition;
 use record::DataType;
-use record::Destination;
 use record::Digits;
 use record::Form;
 use record::Instruction;
@@ -33,11 +31,10 @@ use record::SlctType;
 use record::VideoType;
 use record::Word;
 use tree::Operands;
-use tree::Place;
 use tree::Spot;
 use tree::Tree;
 ghost use mathlib.Core.Path.{_≡_};
-ghost use Rattle.kinds.specs.Registers.{wordOf, predOf, operandOf, bareWord, barePred, bareOperand, conditionBy, conditionOf, spotBy, spotOf, pairBy, secondBy, spotsBy, oneBy, destinationOf};
+ghost use Rattle.kinds.specs.Registers.{bareWord, barePred, destinationOf};
 ghost use Rattle.fills.specs.Fills.{treeAt, wholeBy, partBy, selectedOf, startPlain, startCombine, startOf, lastBy, plainForm, mergeForm, combineForm, formOf, scalarBy, scalarEnd, scalarOf, maskedBy, maskedOf, lanedBy, lanedOf, lanesWith, lanesBy, lanesOf, aloneBy, withBy, combinationOf, comparisonBy, comparisonEnd, comparisonOf, choiceBy, choiceOf, arithmeticFrom, vsetFrom, lanesFrom, setFrom, setpFrom, predLast, selpFrom, slctFrom, filledOf};
 
 // The instruction with the line's operands, or the index of the first operand that is wrong.

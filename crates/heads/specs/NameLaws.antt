@@ -6,7 +6,7 @@ use mathlib.Core.Bool.{Bool, true, false, not, _&&_, and-eq-true-iff}
 use lib.Dec.{eqb}
 use borrow.Author.Tests.{not-true}
 use Rattle.base.specs.Pack.{codeOf}
-use Rattle.base.specs.Values.{Values, every, each}
+use Rattle.base.specs.Values.{each}
 use Rattle.rules.specs.Shape.{Name}
 use Rattle.rules.specs.Names.{setTypeName, typeName, op2Name}
 use Rattle.rules.specs.Choices.{setTypes, types, op2s}

@@ -1,4 +1,5 @@
-// The names of document 01, each as one number: its bytes are the digits at base 128, the first the lowest. Here and nowhere else a name is spelled in code.
+// The names of document 01, each as one number (base/specs/Pack.antt): of opcodes, modifiers and scalar selectors, spelled here and nowhere else in code.
+// Masks and lane selectors are made of digits and stand in crate masks.
 use record::Arith;
 use record::BoolOp;
 use record::Cmp6;

@@ -1,6 +1,6 @@
 -- What the reader computes, stage by stage, on lists. No one has to believe it: specs/Laws.antt joins it to the grammar.
 use Prim.Native.Nat.{ℕ, zero, suc}
-use mathlib.Core.Bool.{Bool, true, false, not, _&&_, cond}
+use mathlib.Core.Bool.{Bool, true, false, not, _&&_}
 use mathlib.Core.List.{List}
 use lib.ListN.{length}
 use lib.Dec.{ltb}

@@ -1,30 +1,23 @@
 -- What the proofs of this crate share: the pieces of a line's text, and how long they are. Assumes nothing.
-use Prim.Native.Nat.{ℕ, zero, suc, _+_, _*_, _/_, _≤_, _<_}
-use native.Mathlib.Decide.{decLt}
-use native.Mathlib.Numerals.{add-one}
+use Prim.Native.Nat.{ℕ, _+_, _≤_}
 use native.Mathlib.Omega.{arith}
-use mathlib.Core.Path.{_≡_, refl, sym, ap, ap₂, _∙_, subst}
-use mathlib.Core.Bool.{Bool, true, false, cond}
-use mathlib.Core.List.{List, [], _∷_, _++_, append-nil}
-use lib.ListN.{length, take, drop, getD, set, length-append, drop-of-length-le}
-use lib.Seq.{take-append-seam, drop-cons, set-at, append-snoc}
-use lib.Dec.{ltb, eqb}
-use borrow.Author.Tests.{lt-ltb, le-ltb}
-use Rattle.base.specs.Lists.{tab}
+use mathlib.Core.Path.{_≡_, refl, ap, subst}
+use mathlib.Core.List.{List, [], _∷_, _++_}
+use lib.ListN.{length, take, drop}
+use lib.Seq.{take-append-seam}
+use borrow.Author.Tests.{le-ltb}
 use Rattle.base.specs.Text.{bytes}
 use Rattle.record.specs.Refusals.{Legal}
-use Rattle.record.specs.Registers.{wordCount, doubleCount, predCount}
 use Rattle.record.specs.declared.Record.{Record}
 use Rattle.rules.specs.Executing.{Files}
-use Rattle.rules.specs.Shape.{digit, numberText, registerText}
 use Rattle.rules.specs.StandardLine.{standard}
 use Rattle.rules.specs.LineLengths.{standard-fits}
 use Rattle.rules.specs.Writing.{Answer, Outcome, written, refused, outcome, writing}
 use Rattle.rules.specs.ExecutionLaws.{at}
-use Rattle.text.specs.Buffer.{Buffer, buffer, filled, Puts, _then_, whole-front}
-use Rattle.text.specs.Digits.{decimal, one-digit, more-digits, hex, hex-length}
+use Rattle.text.specs.Buffer.{Buffer, buffer, Puts, _then_}
+use Rattle.text.specs.Digits.{decimal}
 use Rattle.report.specs.Listing.{lineText}
-use Rattle.changes.specs.Changes.{lineFeed, startValue, digitsOf, valueText, changeText, changesText, registersText}
+use Rattle.changes.specs.Changes.{lineFeed}
 use Rattle.report.specs.Chunks.{PutsAnswer, PutsTurn}
 
 -- ==== the standard line, written to 160 bytes

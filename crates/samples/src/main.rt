@@ -6,7 +6,6 @@ mod writing;
 
 use libc::STDIN_FILENO;
 use libc::STDOUT_FILENO;
-use records::Fields;
 
 // More than any data has: an input that fills it may be longer.
 const INPUT: usize = 1048576;

@@ -3,8 +3,6 @@ use borrow.Author.Tests.{le-ltb, lt-ltb}
 use borrow.Author.Needs.{needs}
 use Rattle.compare.proofs.moved.Statement.{statement}
 use Rattle.compare.proofs.moved.Tie as tie
-use Rattle.compare.proofs.moved.Reads as reads
-use Rattle.compare.proofs.moved.Lts as lts
 
 -- src/lib.rt:43:19
 add-result : tie.Need-add-result

@@ -2,12 +2,6 @@ use Rattle.compare.specs.Mirror.{comparedOf}
 use borrow.Author.Needs.{needs}
 use Rattle.compare.proofs.value.Statement.{statement}
 use Rattle.compare.proofs.value.Tie as tie
-use Rattle.compare.proofs.value.Reads as reads
-use Rattle.compare.proofs.value.Lts as lts
-use Rattle.compare.proofs.double.Reads as double-reads
-use Rattle.compare.proofs.flush.Reads as flush-reads
-use Rattle.compare.proofs.moved.Reads as moved-reads
-use Rattle.compare.proofs.single.Reads as single-reads
 
 -- src/lib.rt:92:26
 enum-told : tie.Need-enum-told

@@ -1,5 +1,5 @@
 -- The invariant: what is left, put from here on, ends as the whole does.
-use Prim.Native.Nat.{ℕ, _<_, _/_, _^_}
+use Prim.Native.Nat.{_<_, _/_, _^_}
 use native.Mathlib.Omega.{arith}
 use mathlib.Core.Path.{_≡_, refl, _∙_}
 use lib.ListN.{length}

@@ -3,8 +3,6 @@ use Rattle.video.proofs.Laws.{two-counted, four-counted}
 use borrow.Author.Needs.{needs}
 use Rattle.video.proofs.counted.Statement.{statement}
 use Rattle.video.proofs.counted.Tie as tie
-use Rattle.video.proofs.counted.Reads as reads
-use Rattle.video.proofs.counted.Lts as lts
 
 -- src/lib.rt:433:31
 array-read-bit-of : tie.Need-array-read-bit-of

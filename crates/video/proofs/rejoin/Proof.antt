@@ -3,9 +3,6 @@ use Rattle.video.specs.Exact.{rejoinedOf}
 use borrow.Author.Needs.{needs}
 use Rattle.video.proofs.rejoin.Statement.{statement}
 use Rattle.video.proofs.rejoin.Tie as tie
-use Rattle.video.proofs.rejoin.Reads as reads
-use Rattle.video.proofs.rejoin.Lts as lts
-use Rattle.video.proofs.wide.Reads as wide-reads
 
 -- src/lib.rt:88:19
 array-read-wide : tie.Need-array-read-wide
