@@ -140,6 +140,7 @@ fn instruction_modifiers_fit(i: Instruction) -> bool
         Instruction::Arithmetic { .. } => true,
         Instruction::Vset { .. } => true,
         Instruction::VsetLanes { .. } => true,
+        Instruction::ArithmeticLanes { .. } => true,
         Instruction::Set { comparison, .. } => comparison_fits(comparison),
         Instruction::Setp { comparison, .. } => comparison_fits(comparison),
         Instruction::Selp { .. } => true,
@@ -266,6 +267,7 @@ fn instruction_operands_fit(i: Instruction) -> bool
         Instruction::Arithmetic { .. } => true,
         Instruction::Vset { .. } => true,
         Instruction::VsetLanes { lanes, .. } => lanes_fit(lanes),
+        Instruction::ArithmeticLanes { lanes, .. } => lanes_fit(lanes),
         Instruction::Set { comparison, .. } => sources_fit(comparison),
         Instruction::Setp { comparison, .. } => sources_fit(comparison),
         Instruction::Selp { choice, .. } => choice_fits(choice),
@@ -291,7 +293,7 @@ pub fn operands_fit(r: Record) -> bool
     instruction_operands_fit(i)
 }
 
-// ---- what stands where a mask or selector of vset2 or vset4 is left out
+// ---- what stands where a mask or a lane selector is left out
 
 pub fn full_mask(w: LaneWidth) -> Mask
     ensures { λ m. ⌜ m ≡ fullMask w ⌝ }

@@ -144,6 +144,7 @@ fn instruction_in_range(i: Instruction) -> bool
         Instruction::Arithmetic { scalar, .. } => scalar_in_range(scalar),
         Instruction::Vset { scalar, .. } => scalar_in_range(scalar),
         Instruction::VsetLanes { lanes, .. } => lanes_in_range(lanes),
+        Instruction::ArithmeticLanes { lanes, .. } => lanes_in_range(lanes),
         Instruction::Set { d, comparison, .. } => word_in_file(d) & comparison_in_range(comparison),
         Instruction::Setp { d, comparison } => destination_in_range(d)
             & comparison_in_range(comparison),
@@ -172,6 +173,7 @@ fn instruction_apart(i: Instruction) -> bool
         Instruction::Arithmetic { .. } => true,
         Instruction::Vset { .. } => true,
         Instruction::VsetLanes { .. } => true,
+        Instruction::ArithmeticLanes { .. } => true,
         Instruction::Set { .. } => true,
         Instruction::Setp { d, .. } => destination_apart(d),
         Instruction::Selp { .. } => true,

@@ -9,7 +9,7 @@ use Rattle.record.specs.declared.CmpOp.{CmpOp}
 use Rattle.record.specs.declared.CmpOp.the-variants.{Six, Unsigned, Float}
 use Rattle.record.specs.declared.Comparison.{Comparison}
 use Rattle.record.specs.declared.Instruction.{Instruction}
-use Rattle.record.specs.declared.Instruction.the-variants.{Arithmetic, Vset, VsetLanes, Set, Setp, Selp, Slct}
+use Rattle.record.specs.declared.Instruction.the-variants.{Arithmetic, Vset, VsetLanes, ArithmeticLanes, Set, Setp, Selp, Slct}
 use Rattle.record.specs.declared.Record.{Record}
 
 -- the letter of a type
@@ -84,6 +84,8 @@ instructionModifiersFit (Arithmetic op dtype sat scalar) = true
 instructionModifiersFit (Vset cmp scalar) = true
 -- vset2, vset4: T T CMP6 {add}
 instructionModifiersFit (VsetLanes cmp lanes) = true
+-- T-01, vadd2 .. vmax4: T(d) T(a) T(b) {sat} {add}
+instructionModifiersFit (ArithmeticLanes op dtype sat lanes) = true
 -- set: CmpOp {BoolOp} {ftz} dtype stype; dtype u32 s32 f32
 instructionModifiersFit (Set dtype d comparison) = comparisonFits comparison
 -- setp: CmpOp {BoolOp} {ftz} stype

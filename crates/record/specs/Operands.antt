@@ -14,7 +14,7 @@ use Rattle.record.specs.declared.Lanes.{Lanes}
 use Rattle.record.specs.declared.Comparison.{Comparison}
 use Rattle.record.specs.declared.Choice.{Choice}
 use Rattle.record.specs.declared.Instruction.{Instruction}
-use Rattle.record.specs.declared.Instruction.the-variants.{Arithmetic, Vset, VsetLanes, Set, Setp, Selp, Slct}
+use Rattle.record.specs.declared.Instruction.the-variants.{Arithmetic, Vset, VsetLanes, ArithmeticLanes, Set, Setp, Selp, Slct}
 use Rattle.record.specs.declared.Record.{Record}
 use Rattle.record.specs.Registers.{wordBits, doubleBits}
 
@@ -23,7 +23,7 @@ use Rattle.record.specs.Registers.{wordBits, doubleBits}
 -- without OP2 either `d, a, b` or `d.sel, a, b, c`; with OP2 `d, a, b, c`, d bare: held by the type `Form`
 -- Selectors on a, b and d: b0 b1 b2 b3 h0 h1; on a and b optional: held by the types `Selector` and `Selected`
 
--- ==== vset2, vset4: `d, a, b, c`
+-- ==== vset2, vset4: `d, a, b, c`. T-01: masks and selectors as for vset2 and vset4, so what is said of vset2 holds of every form with 2, and of vset4 of every form with 4
 
 -- some lane is named
 abbrev pub someLane : Mask → Bool
@@ -109,6 +109,7 @@ abbrev pub instructionOperandsFit : Instruction → Bool
 instructionOperandsFit (Arithmetic op dtype sat scalar) = true
 instructionOperandsFit (Vset cmp scalar) = true
 instructionOperandsFit (VsetLanes cmp lanes) = lanesFit lanes
+instructionOperandsFit (ArithmeticLanes op dtype sat lanes) = lanesFit lanes
 instructionOperandsFit (Set dtype d comparison) = sourcesFit comparison
 instructionOperandsFit (Setp d comparison) = sourcesFit comparison
 instructionOperandsFit (Selp choice c) = choiceFits choice

@@ -20,7 +20,7 @@ use Rattle.record.specs.declared.Destination.{Destination}
 use Rattle.record.specs.declared.Destination.the-variants.{One, Pair, First, Second}
 use Rattle.record.specs.declared.Choice.{Choice}
 use Rattle.record.specs.declared.Instruction.{Instruction}
-use Rattle.record.specs.declared.Instruction.the-variants.{Arithmetic, Vset, VsetLanes, Set, Setp, Selp, Slct}
+use Rattle.record.specs.declared.Instruction.the-variants.{Arithmetic, Vset, VsetLanes, ArithmeticLanes, Set, Setp, Selp, Slct}
 use Rattle.record.specs.declared.Record.{Record}
 use Rattle.record.specs.Registers.{wordInFile, doubleInFile, predInFile}
 use Rattle.record.specs.Modifiers.{modifiersFit}
@@ -74,6 +74,7 @@ abbrev pub instructionInRange : Instruction → Bool
 instructionInRange (Arithmetic op dtype sat scalar) = scalarInRange scalar
 instructionInRange (Vset cmp scalar) = scalarInRange scalar
 instructionInRange (VsetLanes cmp lanes) = lanesInRange lanes
+instructionInRange (ArithmeticLanes op dtype sat lanes) = lanesInRange lanes
 instructionInRange (Set dtype d comparison) = wordInFile d && comparisonInRange comparison
 instructionInRange (Setp d comparison) = destinationInRange d && comparisonInRange comparison
 instructionInRange (Selp choice c) = choiceInRange choice && predInFile c
@@ -94,6 +95,7 @@ abbrev pub instructionApart : Instruction → Bool
 instructionApart (Arithmetic op dtype sat scalar) = true
 instructionApart (Vset cmp scalar) = true
 instructionApart (VsetLanes cmp lanes) = true
+instructionApart (ArithmeticLanes op dtype sat lanes) = true
 instructionApart (Set dtype d comparison) = true
 instructionApart (Setp d comparison) = destinationApart d
 instructionApart (Selp choice c) = true

@@ -121,6 +121,12 @@ pub enum Arith {
     Vmax,
 }
 
+// What the forms with 2 and 4 compute lane by lane (T-01): as scalar arithmetic does, or the average.
+pub enum LaneArith {
+    Scalar(Arith),
+    Vavrg,
+}
+
 // A predicate with optional `!`.
 pub struct Condition {
     pub inverted: bool,
@@ -171,13 +177,13 @@ pub struct Scalar {
     pub b: Selected,
 }
 
-// The lane width: vset2 has two lanes of a half, vset4 four of a byte.
+// The lane width: a form with 2 has two lanes of a half, one with 4 four of a byte.
 pub enum LaneWidth {
     Half,
     Byte,
 }
 
-// The lanes that a mask names. vset2 has lanes 0 and 1: the others are spare room.
+// The lanes that a mask names. A form with 2 has lanes 0 and 1: the others are spare room.
 pub struct Mask {
     pub lane0: bool,
     pub lane1: bool,
@@ -185,7 +191,7 @@ pub struct Mask {
     pub lane3: bool,
 }
 
-// A selector of vset2 or vset4: for each lane the part that it takes. The lanes that vset2 has not are spare room.
+// A lane selector: for each lane the part that it takes. The lanes that a form with 2 has not are spare room.
 pub struct Digits {
     pub lane0: u8,
     pub lane1: u8,
@@ -193,7 +199,7 @@ pub struct Digits {
     pub lane3: u8,
 }
 
-// vset2, vset4: `d, a, b, c` with a mask on d and selectors on a and b. A bare operand holds its default.
+// What the forms with 2 and 4 share: `d, a, b, c` with a mask on d and selectors on a and b. A bare operand holds its default.
 pub struct Lanes {
     pub width: LaneWidth,
     pub atype: VideoType,
@@ -240,7 +246,7 @@ pub struct Choice {
     pub b: Operand,
 }
 
-// One case for each kind of opcode: vadd vsub vabsdiff vmin vmax; vset; vset2 vset4; set; setp; selp; slct.
+// One case for each kind of opcode: vadd vsub vabsdiff vmin vmax; vset; vset2 vset4; vadd2 .. vmax2 vadd4 .. vmax4; set; setp; selp; slct.
 pub enum Instruction {
     Arithmetic {
         op: Arith,
@@ -254,6 +260,12 @@ pub enum Instruction {
     },
     VsetLanes {
         cmp: Cmp6,
+        lanes: Lanes,
+    },
+    ArithmeticLanes {
+        op: LaneArith,
+        dtype: VideoType,
+        sat: bool,
         lanes: Lanes,
     },
     Set {

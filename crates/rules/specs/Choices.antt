@@ -21,6 +21,8 @@ use Rattle.record.specs.declared.Op2.{Op2}
 use Rattle.record.specs.declared.Op2.the-variants.{Add, Min, Max}
 use Rattle.record.specs.declared.Arith.{Arith}
 use Rattle.record.specs.declared.Arith.the-variants.{Vadd, Vsub, Vabsdiff, Vmin, Vmax}
+use Rattle.record.specs.declared.LaneArith
+use Rattle.record.specs.declared.LaneArith.{LaneArith}
 use Rattle.record.specs.declared.LaneWidth.{LaneWidth}
 use Rattle.record.specs.declared.LaneWidth.the-variants.{Half, Byte}
 use Rattle.record.specs.declared.Selector.{Selector}
@@ -122,7 +124,19 @@ ariths = record { list = Vadd ∷ Vsub ∷ Vabsdiff ∷ Vmin ∷ Vmax ∷ []; li
     place Vmin = (3, refl)
     place Vmax = (4, refl)
 
--- vset2, vset4
+-- the operations of T-01, lane by lane
+abbrev pub laneAriths : Values LaneArith
+laneAriths = record { list = LaneArith.Scalar Vadd ∷ LaneArith.Scalar Vsub ∷ LaneArith.Vavrg ∷ LaneArith.Scalar Vabsdiff ∷ LaneArith.Scalar Vmin ∷ LaneArith.Scalar Vmax ∷ []; listed = place }
+  where
+    place : (t : LaneArith) → (i : ℕ) × StandsAt i (LaneArith.Scalar Vadd ∷ LaneArith.Scalar Vsub ∷ LaneArith.Vavrg ∷ LaneArith.Scalar Vabsdiff ∷ LaneArith.Scalar Vmin ∷ LaneArith.Scalar Vmax ∷ []) t
+    place (LaneArith.Scalar Vadd) = (0, refl)
+    place (LaneArith.Scalar Vsub) = (1, refl)
+    place LaneArith.Vavrg = (2, refl)
+    place (LaneArith.Scalar Vabsdiff) = (3, refl)
+    place (LaneArith.Scalar Vmin) = (4, refl)
+    place (LaneArith.Scalar Vmax) = (5, refl)
+
+-- the forms with 2 and with 4
 abbrev pub widths : Values LaneWidth
 widths = record { list = Half ∷ Byte ∷ []; listed = place }
   where

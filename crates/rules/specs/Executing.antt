@@ -25,10 +25,10 @@ use Rattle.record.specs.declared.Comparison.{Comparison}
 use Rattle.record.specs.declared.Destination.{Destination}
 use Rattle.record.specs.declared.Destination.the-variants.{One, Pair, First, Second}
 use Rattle.record.specs.declared.Instruction.{Instruction}
-use Rattle.record.specs.declared.Instruction.the-variants.{Arithmetic, Vset, VsetLanes, Set, Setp, Selp, Slct}
+use Rattle.record.specs.declared.Instruction.the-variants.{Arithmetic, Vset, VsetLanes, ArithmeticLanes, Set, Setp, Selp, Slct}
 use Rattle.record.specs.declared.Record.{Record}
 use Rattle.rules.specs.Numbers.{bit, wordSize}
-use Rattle.rules.specs.Execution.{arithmeticOf, vsetOf, lanesOf, comparisonOf, boolOf, setOf, selpOf, slctOf}
+use Rattle.rules.specs.Execution.{arithmeticOf, vsetOf, lanesOf, arithmeticLanesOf, comparisonOf, boolOf, setOf, selpOf, slctOf}
 
 -- Three lent files: words, double-words, predicates
 pub record Files : Type 0 where
@@ -121,6 +121,8 @@ writes (Vset cmp s) f =
     ∷ []
 writes (VsetLanes cmp l) f =
     write (word (l .d .0)) (lanesOf cmp l (wordOf (f .words) (l .a)) (wordOf (f .words) (l .b)) (wordOf (f .words) (l .c))) ∷ []
+writes (ArithmeticLanes op dtype sat l) f =
+    write (word (l .d .0)) (arithmeticLanesOf op dtype sat l (wordOf (f .words) (l .a)) (wordOf (f .words) (l .b)) (wordOf (f .words) (l .c))) ∷ []
 writes (Set dtype d s) f =
     write (word (d .0)) (setOf dtype (combinedOf (f .preds) (s .combination) (testOf (f .words) (f .doubles) s))) ∷ []
 writes (Setp d s) f =

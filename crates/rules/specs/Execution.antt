@@ -1,8 +1,8 @@
--- Document 01, "What execution does": its bullets in their order, as functions of what the registers hold before. Each sentence stands above
+-- Document 01, "What execution does": its bullets in their order, and request T-01 after vset2 and vset4, as functions of what the registers hold before. Each sentence stands above
 -- what says it; those on files, guards and places are in Executing.antt. Words are untyped, so an f32 is its bits. Subnormal numbers are kept.
 use Prim.Native.Nat.{ℕ, zero, suc, _+_, _-_, _/_, _%_}
 use mathlib.Core.Bool.{Bool, true, false, not, _&&_, _||_, cond}
-use lib.IntN.{ℤ, pos, negℤ, _+ℤ_, _-ℤ_}
+use lib.IntN.{ℤ, pos, negsuc, negℤ, _+ℤ_, _-ℤ_}
 use lib.Signed.{ltZ, leZ}
 use lib.Dec.{ltb, leb, eqb}
 use lib.Ieee.{Float, binary32, binary64, ofBits, isNan, lt, eq, unlike, top, hid}
@@ -18,6 +18,8 @@ use Rattle.record.specs.declared.Form.the-variants.{Plain, Merge, Combine}
 use Rattle.record.specs.declared.Scalar.{Scalar}
 use Rattle.record.specs.declared.Arith.{Arith}
 use Rattle.record.specs.declared.Arith.the-variants.{Vadd, Vsub, Vabsdiff, Vmin, Vmax}
+use Rattle.record.specs.declared.LaneArith
+use Rattle.record.specs.declared.LaneArith.{LaneArith}
 use Rattle.record.specs.declared.Op2.{Op2}
 use Rattle.record.specs.declared.Op2.the-variants.{Add, Min, Max}
 use Rattle.record.specs.declared.Mask.{Mask}
@@ -146,9 +148,12 @@ unfoldable pub laneHolds : Cmp6 → Lanes → ℕ → ℕ → ℕ → Bool
 laneHolds cmp l a b i =
     holdsZ cmp (laneNumber (l .width) (l .atype) (l .asel) a b i) (laneNumber (l .width) (l .btype) (l .bsel) a b i)
 
--- Masked lanes, those the mask names, get 1 or 0; other lanes keep c's part
-abbrev pub laneOf : Cmp6 → Lanes → ℕ → ℕ → ℕ → ℕ → ℕ
-laneOf cmp l a b c i = cond (maskAt (l .mask) i) (bit (laneHolds cmp l a b i)) (partAt (size (l .width)) c i)
+-- Masked lanes, those the mask names, get 1 or 0, or what T-01 gives: v; other lanes keep c's part
+abbrev pub mergedLane : Lanes → (ℕ → ℕ) → ℕ → ℕ → ℕ
+mergedLane l v c i = cond (maskAt (l .mask) i) (v i) (partAt (size (l .width)) c i)
+
+abbrev pub merged : Lanes → (ℕ → ℕ) → ℕ → ℕ
+merged l v c = joined (size (l .width)) (lanes (l .width)) (mergedLane l v c)
 
 -- for how many of the first k numbers f holds
 abbrev pub count : ℕ → (ℕ → Bool) → ℕ
@@ -159,7 +164,45 @@ count (suc k) f = bit (f 0) + count k (λ i. f (suc i))
 unfoldable pub lanesOf : Cmp6 → Lanes → ℕ → ℕ → ℕ → ℕ
 lanesOf cmp l a b c =
     cond (l .add) ((c + count (lanes (l .width)) (λ i. maskAt (l .mask) i && laneHolds cmp l a b i)) % wordSize)
-    (joined (size (l .width)) (lanes (l .width)) (laneOf cmp l a b c))
+    (merged l (λ i. bit (laneHolds cmp l a b i)) c)
+
+-- ==== T-01: vadd2, vsub2, vavrg2, vabsdiff2, vmin2, vmax2 and the six with 4, by source document 002: three types, `sat`, `add`, masks and selectors as for vset2 and vset4
+
+-- halving rounds down
+abbrev pub halved : ℤ → ℤ
+halved (pos n) = pos (n / 2)
+halved (negsuc n) = negsuc (n / 2)
+
+-- The average adds 1 before halving when the sum is at or above zero
+abbrev pub averageZ : ℤ → ℤ → ℤ
+averageZ x y = cond (leZ (pos 0) (x +ℤ y)) (halved (x +ℤ y +ℤ pos 1)) (halved (x +ℤ y))
+
+-- the operation on a lane's two numbers, exact
+abbrev pub laneArithZ : LaneArith → ℤ → ℤ → ℤ
+laneArithZ (LaneArith.Scalar op) x y = arithZ op x y
+laneArithZ LaneArith.Vavrg x y = averageZ x y
+
+-- `sat` clamps each lane to the lane's range under dtype
+unfoldable pub laneResult : LaneArith → VideoType → Bool → Lanes → ℕ → ℕ → ℕ → ℤ
+laneResult op dtype sat l a b i =
+    clampedOf sat (isSigned dtype) (size (l .width))
+    (laneArithZ op (laneNumber (l .width) (l .atype) (l .asel) a b i) (laneNumber (l .width) (l .btype) (l .bsel) a b i))
+
+-- the sum of the first k numbers
+abbrev pub sumZ : ℕ → (ℕ → ℤ) → ℤ
+sumZ zero f = pos 0
+sumZ (suc k) f = f 0 +ℤ sumZ k (λ i. f (suc i))
+
+-- what d gets of the exact lane results t: a merge keeps the low bits of the lane, and unmasked lanes keep c's parts.
+-- `add` adds the exact masked lane results to c, modulo 2^32
+abbrev pub groupOf : Lanes → (ℕ → ℤ) → ℕ → ℕ
+groupOf l t c =
+    cond (l .add) (lowOf wordSize (pos c +ℤ sumZ (lanes (l .width)) (λ i. cond (maskAt (l .mask) i) (t i) (pos 0))))
+    (merged l (λ i. lowOf (size (l .width)) (t i)) c)
+
+-- .. clamped if `sat`: before the merge and before `add`
+unfoldable pub arithmeticLanesOf : LaneArith → VideoType → Bool → Lanes → ℕ → ℕ → ℕ → ℕ
+arithmeticLanesOf op dtype sat l a b c = groupOf l (laneResult op dtype sat l a b) c
 
 -- ==== set, setp
 

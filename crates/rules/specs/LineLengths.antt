@@ -10,7 +10,7 @@ use borrow.Author.Tests.{eqb-true, leb-true, ltb-true, ltb-false}
 use Rattle.base.specs.Text.{bytes}
 use Rattle.base.specs.Values.{Values, every, each}
 use Rattle.record.specs.Operands.{fullMask, defaultA, defaultB}
-use Rattle.record.specs.Refusals.{isLegal, Legal, guardInRange, selectedInRange, formInRange, operandInRange, combinationInRange, destinationInRange, instructionInRange}
+use Rattle.record.specs.Refusals.{isLegal, Legal, guardInRange, selectedInRange, formInRange, lanesInRange, operandInRange, combinationInRange, destinationInRange, instructionInRange}
 use Rattle.record.specs.declared.VideoType
 use Rattle.record.specs.declared.VideoType.{VideoType}
 use Rattle.record.specs.declared.SetType.{SetType}
@@ -18,11 +18,13 @@ use Rattle.record.specs.declared.SlctType
 use Rattle.record.specs.declared.SlctType.{SlctType}
 use Rattle.record.specs.declared.DataType.{DataType}
 use Rattle.record.specs.declared.Cmp6.{Cmp6}
-use Rattle.record.specs.declared.Cmp6.the-variants.{Eq}
 use Rattle.record.specs.declared.CmpOp.{CmpOp}
 use Rattle.record.specs.declared.BoolOp.{BoolOp}
 use Rattle.record.specs.declared.Op2.{Op2}
 use Rattle.record.specs.declared.Arith.{Arith}
+use Rattle.record.specs.declared.Arith.the-variants.{Vabsdiff}
+use Rattle.record.specs.declared.LaneArith
+use Rattle.record.specs.declared.LaneArith.{LaneArith}
 use Rattle.record.specs.declared.Word.{Word}
 use Rattle.record.specs.declared.Condition.{Condition}
 use Rattle.record.specs.declared.Guard.{Guard}
@@ -38,19 +40,20 @@ use Rattle.record.specs.declared.LaneWidth.{LaneWidth}
 use Rattle.record.specs.declared.LaneWidth.the-variants.{Half, Byte}
 use Rattle.record.specs.declared.Mask.{Mask}
 use Rattle.record.specs.declared.Digits.{Digits}
+use Rattle.record.specs.declared.Lanes.{Lanes}
 use Rattle.record.specs.declared.Operand
 use Rattle.record.specs.declared.Operand.{Operand}
 use Rattle.record.specs.declared.Destination.{Destination}
 use Rattle.record.specs.declared.Destination.the-variants.{One, Pair, First, Second}
 use Rattle.record.specs.declared.Instruction.{Instruction}
-use Rattle.record.specs.declared.Instruction.the-variants.{Arithmetic, Vset, VsetLanes, Set, Setp, Selp, Slct}
+use Rattle.record.specs.declared.Instruction.the-variants.{Arithmetic, Vset, VsetLanes, ArithmeticLanes, Set, Setp, Selp, Slct}
 use Rattle.record.specs.declared.Record.{Record}
 use Rattle.rules.specs.Numbers.{lanes, bit}
 use Rattle.rules.specs.Executing.{Place, operandPlace}
 use Rattle.rules.specs.Shape.{Name, dotted, headText, numberText, registerText, OperandTree, bare, operandText, guardText}
-use Rattle.rules.specs.Names.{videoTypeName, setTypeName, typeName, sixName, cmpName, boolName, op2Name, arithName, lanesName, when, formOp2, combinationNames, headNames, selectorName, digitsName}
-use Rattle.rules.specs.Choices.{videoTypes, setTypes, types, sixes, cmps, boolOps, op2s, ariths, widths, selectors}
-use Rattle.rules.specs.StandardLine.{r, p, selectedTree, formTree, formLast, sameMask, sameDigits, maskTree, digitsTree, conditionTree, combinationLast, destinationTree, operandTrees, guardPart, further, operandsText, standard}
+use Rattle.rules.specs.Names.{videoTypeName, setTypeName, typeName, sixName, cmpName, boolName, op2Name, arithName, widthName, laneArithStem, when, formOp2, combinationNames, headNames, selectorName, digitsName}
+use Rattle.rules.specs.Choices.{videoTypes, setTypes, types, sixes, cmps, boolOps, op2s, ariths, laneAriths, widths, selectors}
+use Rattle.rules.specs.StandardLine.{r, p, selectedTree, formTree, formLast, sameMask, sameDigits, maskTree, digitsTree, conditionTree, combinationLast, destinationTree, lanesTrees, operandTrees, guardPart, further, operandsText, standard}
 
 -- ==== pieces with k bytes before each, and with k bytes between two
 
@@ -106,8 +109,8 @@ six-length = long sixName 2 sixes refl
 op2-length : (op : Op2) → length (op2Name op) ≡ 3
 op2-length = long op2Name 3 op2s refl
 
-lanes-length : (w : LaneWidth) → length (lanesName w) ≡ 5
-lanes-length = long lanesName 5 widths refl
+width-length : (w : LaneWidth) → length (widthName w) ≡ 1
+width-length = long widthName 1 widths refl
 
 selector-length : (sel : Selector) → length (selectorName sel) ≡ 2
 selector-length = long selectorName 2 selectors refl
@@ -120,10 +123,13 @@ lane-length : (t : Bool) (b : ℕ) → length (cond t (b ∷ []) []) ≡ bit t
 lane-length true b = refl
 lane-length false b = refl
 
-ruleset lengths = (length-append, after-append, video-length, set-length, type-length, six-length, op2-length, lanes-length, selector-length, digits-length, lane-length)
+ruleset lengths = (length-append, after-append, video-length, set-length, type-length, six-length, op2-length, width-length, selector-length, digits-length, lane-length)
 
 arith-short : (op : Arith) → length (arithName op) ≤ 8
 arith-short = short arithName 8 ariths refl
+
+lane-arith-short : (op : LaneArith) → length (laneArithStem op) ≤ 8
+lane-arith-short = short laneArithStem 8 laneAriths refl
 
 cmp-short : (op : CmpOp) → length (cmpName op) ≤ 3
 cmp-short = short cmpName 3 cmps refl
@@ -192,7 +198,7 @@ bit-le : (t : Bool) → bit t ≤ 1
 bit-le true = lit≤ tt
 bit-le false = lit≤ tt
 
--- a mask of vset4 that is written leaves a lane out
+-- a mask of four lanes that is written leaves a lane out
 mask-short : (w : LaneWidth) (d : Word) (m : Mask) → length (operandText (maskTree w d m)) ≤ length (registerText (r d)) + (9 - lanes w)
 mask-short Half d m =
     either-short (sameMask m (fullMask Half)) _ _ _ (omega arith)
@@ -210,20 +216,27 @@ at-most-four : (w : LaneWidth) → lanes w ≤ 4
 at-most-four Half = lit≤ tt
 at-most-four Byte = lit≤ tt
 
--- ==== lines
-
--- head and operands
-instruction-short : (i : Instruction) → instructionInRange i ≡ true → joined 1 (headNames i) + joined 2 (map operandText (operandTrees i)) ≤ 59
-instruction-short (Arithmetic op dtype sat s) h =
-    let k = simp and-eq-true-iff at h in
-    simp lengths (omega (arith, arith-short op, when-short sat (bytes "sat"), form-short, selected-short))
-instruction-short (Vset cmp s) h = let k = simp and-eq-true-iff at h in simp lengths (omega (arith, form-short, selected-short))
-instruction-short (VsetLanes cmp l) h =
+-- the operands of the forms with 2 and 4
+lanes-short : (l : Lanes) → lanesInRange l ≡ true → joined 2 (map operandText (lanesTrees l)) ≤ 39
+lanes-short l h =
     let k = simp and-eq-true-iff at h in
     let w = l .width in
     simp lengths
     (omega
-    (arith, number-short, when-short (l .add) (bytes "add"), mask-short w (l .d) (l .mask), digits-short w (defaultA w) (l .a) (l .asel), digits-short w (defaultB w) (l .b) (l .bsel), at-most-four w))
+    (arith, number-short, mask-short w (l .d) (l .mask), digits-short w (defaultA w) (l .a) (l .asel), digits-short w (defaultB w) (l .b) (l .bsel), at-most-four w))
+
+-- ==== lines
+
+-- head and operands
+instruction-short : (i : Instruction) → instructionInRange i ≡ true → joined 1 (headNames i) + joined 2 (map operandText (operandTrees i)) ≤ 68
+instruction-short (Arithmetic op dtype sat s) h =
+    let k = simp and-eq-true-iff at h in
+    simp lengths (omega (arith, arith-short op, when-short sat (bytes "sat"), form-short, selected-short))
+instruction-short (Vset cmp s) h = let k = simp and-eq-true-iff at h in simp lengths (omega (arith, form-short, selected-short))
+instruction-short (VsetLanes cmp l) h = simp lengths (omega (arith, when-short (l .add) (bytes "add"), lanes-short l h))
+instruction-short (ArithmeticLanes op dtype sat l) h =
+    simp lengths
+    (omega (arith, lane-arith-short op, when-short sat (bytes "sat"), when-short (l .add) (bytes "add"), lanes-short l h))
 instruction-short (Set dtype d s) h =
     let k = simp and-eq-true-iff at h in
     simp lengths (omega (arith, cmp-short (s .cmp), when-short (s .ftz) (bytes "ftz"), number-short, operand-short, combination-short))
@@ -237,7 +250,7 @@ instruction-short (Slct (SlctType.F32 ftz) s c) h =
     simp lengths (omega (arith, when-short ftz (bytes "ftz"), number-short, operand-short))
 
 abbrev pub longestLine : ℕ
-longestLine = 68
+longestLine = 77
 
 pub standard-length : (r : Record) → Legal r → length (standard r) ≤ longestLine
 unfolding standard isLegal
@@ -254,7 +267,7 @@ standard-fits r h = omega (arith, standard-length r h)
 abbrev pub longest : Record
 longest = record {
   guard = When (record { inverted = true; pred = record { 0 = 15 } });
-  instruction = VsetLanes Eq
+  instruction = ArithmeticLanes (LaneArith.Scalar Vabsdiff) VideoType.U32 true
       (record {
         width = Byte;
         atype = VideoType.U32;
@@ -274,7 +287,7 @@ pub longest-legal : Legal longest
 unfolding isLegal
 longest-legal = refl
 
-pub longest-text : standard longest ≡ bytes "@!%p15 vset4.u32.u32.eq.add %r63.b321, %r63.b7777, %r63.b7777, %r63;"
+pub longest-text : standard longest ≡ bytes "@!%p15 vabsdiff4.u32.u32.u32.sat.add %r63.b321, %r63.b7777, %r63.b7777, %r63;"
 unfolding standard
 longest-text = refl
 

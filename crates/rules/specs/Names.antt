@@ -23,6 +23,8 @@ use Rattle.record.specs.declared.Op2.{Op2}
 use Rattle.record.specs.declared.Op2.the-variants.{Add, Min, Max}
 use Rattle.record.specs.declared.Arith.{Arith}
 use Rattle.record.specs.declared.Arith.the-variants.{Vadd, Vsub, Vabsdiff, Vmin, Vmax}
+use Rattle.record.specs.declared.LaneArith
+use Rattle.record.specs.declared.LaneArith.{LaneArith}
 use Rattle.record.specs.declared.Combination.{Combination}
 use Rattle.record.specs.declared.Combination.the-variants.{Alone, With}
 use Rattle.record.specs.declared.Form.{Form}
@@ -34,7 +36,7 @@ use Rattle.record.specs.declared.Selector.the-variants.{B0, B1, B2, B3, H0, H1}
 use Rattle.record.specs.declared.Mask.{Mask}
 use Rattle.record.specs.declared.Digits.{Digits}
 use Rattle.record.specs.declared.Instruction.{Instruction}
-use Rattle.record.specs.declared.Instruction.the-variants.{Arithmetic, Vset, VsetLanes, Set, Setp, Selp, Slct}
+use Rattle.record.specs.declared.Instruction.the-variants.{Arithmetic, Vset, VsetLanes, ArithmeticLanes, Set, Setp, Selp, Slct}
 use Rattle.rules.specs.Shape.{Name, digit}
 
 -- ==== modifiers
@@ -105,9 +107,22 @@ arithName Vabsdiff = bytes "vabsdiff"
 arithName Vmin = bytes "vmin"
 arithName Vmax = bytes "vmax"
 
+-- the forms with 2 and 4
+abbrev pub widthName : LaneWidth → List ℕ
+widthName Half = bytes "2"
+widthName Byte = bytes "4"
+
+-- vset2, vset4
 abbrev pub lanesName : LaneWidth → Name
-lanesName Half = bytes "vset2"
-lanesName Byte = bytes "vset4"
+lanesName w = bytes "vset" ++ widthName w
+
+-- T-01: vadd2, vsub2, vavrg2, vabsdiff2, vmin2, vmax2 and the six with 4. vavrg alone is no opcode
+abbrev pub laneArithStem : LaneArith → List ℕ
+laneArithStem (LaneArith.Scalar op) = arithName op
+laneArithStem LaneArith.Vavrg = bytes "vavrg"
+
+abbrev pub laneArithName : LaneArith → LaneWidth → Name
+laneArithName op w = laneArithStem op ++ widthName w
 
 -- Braces mark what may be left out
 abbrev pub when : Bool → Name → List Name
@@ -132,6 +147,13 @@ headNames (Arithmetic op dtype sat s) =
 headNames (Vset cmp s) = bytes "vset" ∷ videoTypeName (s .atype) ∷ videoTypeName (s .btype) ∷ sixName cmp ∷ formOp2 (s .form)
 -- T T CMP6 {add}
 headNames (VsetLanes cmp l) = lanesName (l .width) ∷ videoTypeName (l .atype) ∷ videoTypeName (l .btype) ∷ sixName cmp ∷ when (l .add) (bytes "add")
+-- T-01: T(d) T(a) T(b) {sat} {add}. Both may stand: `add` adds the lane results, "clamped if `sat`"
+headNames (ArithmeticLanes op dtype sat l) =
+    laneArithName op (l .width)
+    ∷ videoTypeName dtype
+    ∷ videoTypeName (l .atype)
+    ∷ videoTypeName (l .btype)
+    ∷ (when sat (bytes "sat") ++ when (l .add) (bytes "add"))
 -- CmpOp {BoolOp} {ftz} dtype stype; dtype u32 s32 f32
 headNames (Set dtype d s) =
     bytes "set" ∷ cmpName (s .cmp) ∷ (combinationNames (s .combination) ++ when (s .ftz) (bytes "ftz") ++ setTypeName dtype ∷ typeName (s .stype) ∷ [])

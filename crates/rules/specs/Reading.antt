@@ -9,9 +9,10 @@ use Rattle.record.specs.Modifiers.{instructionModifiersFit, modifiersFit}
 use Rattle.record.specs.Operands.{lanesFit, operandsFit}
 use Rattle.record.specs.Refusals.{numbersInRange, pairApart, Legal}
 use Rattle.record.specs.declared.Guard.{Guard}
+use Rattle.record.specs.declared.Lanes.{Lanes}
 use Rattle.record.specs.declared.Guard.the-variants.{Always, When}
 use Rattle.record.specs.declared.Instruction.{Instruction}
-use Rattle.record.specs.declared.Instruction.the-variants.{Arithmetic, Vset, VsetLanes, Set, Setp, Selp, Slct}
+use Rattle.record.specs.declared.Instruction.the-variants.{Arithmetic, Vset, VsetLanes, ArithmeticLanes, Set, Setp, Selp, Slct}
 use Rattle.record.specs.declared.Record.{Record}
 use Rattle.rules.specs.Shape.{Name, OperandTree, bare, part}
 use Rattle.rules.specs.Names.{headNames, maskName, digitsName}
@@ -27,14 +28,18 @@ GuardSpells unguarded (When c) = ⊥
 GuardSpells (guarded negated q blanks) Always = ⊥
 GuardSpells (guarded negated q blanks) (When c) = (negated ≡ c .inverted) × (q ≡ p (c .pred))
 
--- the operands with every mask and selector of vset2 and vset4 written out
-abbrev pub writtenTrees : Instruction → List OperandTree
-writtenTrees (VsetLanes cmp l) =
+-- the operands with every mask and selector of the forms with 2 and 4 written out
+abbrev pub writtenLanes : Lanes → List OperandTree
+writtenLanes l =
     part (r (l .d)) (maskName (l .width) (l .mask))
     ∷ part (r (l .a)) (digitsName (l .width) (l .asel))
     ∷ part (r (l .b)) (digitsName (l .width) (l .bsel))
     ∷ bare (r (l .c))
     ∷ []
+
+abbrev pub writtenTrees : Instruction → List OperandTree
+writtenTrees (VsetLanes cmp l) = writtenLanes l
+writtenTrees (ArithmeticLanes op dtype sat l) = writtenLanes l
 writtenTrees (Arithmetic op dtype sat s) = operandTrees (Arithmetic op dtype sat s)
 writtenTrees (Vset cmp s) = operandTrees (Vset cmp s)
 writtenTrees (Set dtype d s) = operandTrees (Set dtype d s)
@@ -54,6 +59,7 @@ pub data Spelled : List OperandTree → List OperandTree → List OperandTree �
 -- Mask on d: h0 h1 h10; the fifteen names of `b`. Selectors: `h` and two digits 0-3; `b` and four digits 0-7. No other has a name
 abbrev pub lanesNamed : Instruction → Bool
 lanesNamed (VsetLanes cmp l) = lanesFit l
+lanesNamed (ArithmeticLanes op dtype sat l) = lanesFit l
 lanesNamed (Arithmetic op dtype sat s) = true
 lanesNamed (Vset cmp s) = true
 lanesNamed (Set dtype d s) = true
@@ -84,11 +90,13 @@ pub record Relates (l : List ℕ) (m : Record) : Type 0 where
 
 -- ==== refusals 1 to 7, each looked at only when the earlier ones don't apply
 
--- Read, written and executed
+-- Read, written and executed; T-01 adds the twelve in the third row
 abbrev pub opcodes : List Name
 opcodes =
     bytes "vadd" ∷ bytes "vsub" ∷ bytes "vabsdiff" ∷ bytes "vmin" ∷ bytes "vmax"
     ∷ bytes "vset" ∷ bytes "vset2" ∷ bytes "vset4"
+    ∷ bytes "vadd2" ∷ bytes "vsub2" ∷ bytes "vavrg2" ∷ bytes "vabsdiff2" ∷ bytes "vmin2" ∷ bytes "vmax2"
+    ∷ bytes "vadd4" ∷ bytes "vsub4" ∷ bytes "vavrg4" ∷ bytes "vabsdiff4" ∷ bytes "vmin4" ∷ bytes "vmax4"
     ∷ bytes "set" ∷ bytes "setp" ∷ bytes "selp" ∷ bytes "slct"
     ∷ []
 

@@ -26,7 +26,7 @@ use Rattle.record.specs.declared.Digits.{Digits}
 use Rattle.record.specs.declared.Destination.{Destination}
 use Rattle.record.specs.declared.Destination.the-variants.{One, Pair, First, Second}
 use Rattle.record.specs.declared.Instruction.{Instruction}
-use Rattle.record.specs.declared.Instruction.the-variants.{Arithmetic, Vset, VsetLanes, Set, Setp, Selp, Slct}
+use Rattle.record.specs.declared.Instruction.the-variants.{Arithmetic, Vset, VsetLanes, ArithmeticLanes, Set, Setp, Selp, Slct}
 use Rattle.record.specs.declared.Record.{Record}
 use Rattle.rules.specs.Executing.{Place, word, pred, operandPlace}
 use Rattle.rules.specs.Shape.{headText, at, nothing, OperandTree, inverted, pair, bare, part, operandText, guardText}
@@ -105,6 +105,7 @@ abbrev pub operandTrees : Instruction → List OperandTree
 operandTrees (Arithmetic op dtype sat s) = scalarTrees s
 operandTrees (Vset cmp s) = scalarTrees s
 operandTrees (VsetLanes cmp l) = lanesTrees l
+operandTrees (ArithmeticLanes op dtype sat l) = lanesTrees l
 operandTrees (Set dtype d s) = bare (r d) ∷ sourceTrees s
 operandTrees (Setp d s) = destinationTree d ∷ sourceTrees s
 operandTrees (Selp s c) = choiceTrees s (p c)

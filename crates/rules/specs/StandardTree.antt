@@ -25,6 +25,7 @@ use Rattle.record.specs.declared.CmpOp.{CmpOp}
 use Rattle.record.specs.declared.BoolOp.{BoolOp}
 use Rattle.record.specs.declared.Op2.{Op2}
 use Rattle.record.specs.declared.Arith.{Arith}
+use Rattle.record.specs.declared.LaneArith.{LaneArith}
 use Rattle.record.specs.declared.Word.{Word}
 use Rattle.record.specs.declared.Pred.{Pred}
 use Rattle.record.specs.declared.Condition.{Condition}
@@ -50,12 +51,12 @@ use Rattle.record.specs.declared.Operand.{Operand}
 use Rattle.record.specs.declared.Destination.{Destination}
 use Rattle.record.specs.declared.Destination.the-variants.{One, Pair, First, Second}
 use Rattle.record.specs.declared.Instruction.{Instruction}
-use Rattle.record.specs.declared.Instruction.the-variants.{Arithmetic, Vset, VsetLanes, Set, Setp, Selp, Slct}
+use Rattle.record.specs.declared.Instruction.the-variants.{Arithmetic, Vset, VsetLanes, ArithmeticLanes, Set, Setp, Selp, Slct}
 use Rattle.record.specs.declared.Record.{Record}
 use Rattle.rules.specs.Executing.{Place, word, operandPlace}
 use Rattle.rules.specs.Shape.{Name, digit, OperandTree, bare}
-use Rattle.rules.specs.Names.{videoTypeName, setTypeName, typeName, sixName, cmpName, boolName, op2Name, arithName, lanesName, when, formOp2, combinationNames, headNames, selectorName, maskName, digitsName}
-use Rattle.rules.specs.Choices.{videoTypes, setTypes, types, sixes, cmps, boolOps, op2s, ariths, widths, selectors}
+use Rattle.rules.specs.Names.{videoTypeName, setTypeName, typeName, sixName, cmpName, boolName, op2Name, arithName, lanesName, laneArithName, when, formOp2, combinationNames, headNames, selectorName, maskName, digitsName}
+use Rattle.rules.specs.Choices.{videoTypes, setTypes, types, sixes, cmps, boolOps, op2s, ariths, laneAriths, widths, selectors}
 use Rattle.rules.specs.StandardLine.{r, p, selectedTree, formTree, formLast, sameMask, sameDigits, maskTree, digitsTree, conditionTree, combinationLast, destinationTree, scalarTrees, lanesTrees, sourceTrees, choiceTrees, operandTrees, guardPart, further, standard}
 use Rattle.rules.specs.LineLengths.{standard-fits}
 use Rattle.rules.specs.Grammar
@@ -108,6 +109,7 @@ names-whole : (i : Instruction) → opcodeOf i ∷ modifiersOf i ≡ headNames i
 names-whole (Arithmetic op dtype sat s) = refl
 names-whole (Vset cmp s) = refl
 names-whole (VsetLanes cmp l) = refl
+names-whole (ArithmeticLanes op dtype sat l) = refl
 names-whole (Set dtype d s) = refl
 names-whole (Setp d s) = refl
 names-whole (Selp s c) = refl
@@ -118,6 +120,7 @@ operands-whole : (i : Instruction) → firstOf i ∷ othersOf i ≡ operandTrees
 operands-whole (Arithmetic op dtype sat s) = refl
 operands-whole (Vset cmp s) = refl
 operands-whole (VsetLanes cmp l) = refl
+operands-whole (ArithmeticLanes op dtype sat l) = refl
 operands-whole (Set dtype d s) = refl
 operands-whole (Setp d s) = refl
 operands-whole (Selp s c) = refl
@@ -183,6 +186,9 @@ arith-named = each (λ op. isName (arithName op)) ariths refl
 lanes-named : (w : LaneWidth) → isName (lanesName w) ≡ true
 lanes-named = each (λ w. isName (lanesName w)) widths refl
 
+lane-arith-named : (op : LaneArith) (w : LaneWidth) → isName (laneArithName op w) ≡ true
+lane-arith-named op = each (λ w. isName (laneArithName op w)) widths (each (λ op. every (λ w. isName (laneArithName op w)) (widths .list)) laneAriths refl op)
+
 selector-named : (sel : Selector) → isName (selectorName sel) ≡ true
 selector-named = each (λ sel. isName (selectorName sel)) selectors refl
 
@@ -219,12 +225,13 @@ combination-named : (c : Combination) → every isName (combinationNames c) ≡ 
 combination-named Alone = refl
 combination-named (With op c) = simp bool-named
 
-ruleset namings = (every-append, video-named, set-named, type-named, six-named, cmp-named, arith-named, lanes-named, when-named, form-named, combination-named)
+ruleset namings = (every-append, video-named, set-named, type-named, six-named, cmp-named, arith-named, lanes-named, lane-arith-named, when-named, form-named, combination-named)
 
 names-named : (i : Instruction) → every isName (headNames i) ≡ true
 names-named (Arithmetic op dtype sat s) = simp namings
 names-named (Vset cmp s) = simp namings
 names-named (VsetLanes cmp l) = simp namings
+names-named (ArithmeticLanes op dtype sat l) = simp namings
 names-named (Set dtype d s) = simp namings
 names-named (Setp d s) = simp namings
 names-named (Selp s c) = simp namings
@@ -317,6 +324,7 @@ operands-good : (i : Instruction) → instructionInRange i ≡ true → GoodOper
 operands-good (Arithmetic op dtype sat s) h = scalar-good s h
 operands-good (Vset cmp s) h = scalar-good s h
 operands-good (VsetLanes cmp l) h = lanes-good l h
+operands-good (ArithmeticLanes op dtype sat l) h = lanes-good l h
 operands-good (Set dtype d s) h =
     let k = (and-eq-true-iff (wordInFile d) (comparisonInRange s)) .0 h in
     Grammar.more (word-good d (k .0)) (sources-good s (k .1))
@@ -381,6 +389,7 @@ operands-spelled : (i : Instruction) → Spelled (operandTrees i) (operandTrees 
 operands-spelled (Arithmetic op dtype sat s) = as-standing _ _ refl
 operands-spelled (Vset cmp s) = as-standing _ _ refl
 operands-spelled (VsetLanes cmp l) = as-standing _ _ refl
+operands-spelled (ArithmeticLanes op dtype sat l) = as-standing _ _ refl
 operands-spelled (Set dtype d s) = as-standing _ _ refl
 operands-spelled (Setp d s) = as-standing _ _ refl
 operands-spelled (Selp s c) = as-standing _ _ refl
@@ -388,6 +397,7 @@ operands-spelled (Slct ctype s c) = as-standing _ _ refl
 
 lanes-have-names : (i : Instruction) → instructionOperandsFit i ≡ true → lanesNamed i ≡ true
 lanes-have-names (VsetLanes cmp l) h = h
+lanes-have-names (ArithmeticLanes op dtype sat l) h = h
 lanes-have-names (Arithmetic op dtype sat s) h = refl
 lanes-have-names (Vset cmp s) h = refl
 lanes-have-names (Set dtype d s) h = refl

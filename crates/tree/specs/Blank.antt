@@ -18,7 +18,7 @@ use Rattle.record.specs.declared.Destination.the-variants.{One}
 use Rattle.record.specs.declared.DataType.{DataType}
 use Rattle.record.specs.declared.Choice.{Choice}
 use Rattle.record.specs.declared.Instruction.{Instruction}
-use Rattle.record.specs.declared.Instruction.the-variants.{Arithmetic, Vset, VsetLanes, Set, Setp, Selp, Slct}
+use Rattle.record.specs.declared.Instruction.the-variants.{Arithmetic, Vset, VsetLanes, ArithmeticLanes, Set, Setp, Selp, Slct}
 
 abbrev pub noWord : Word
 noWord = record { 0 = 0 }
@@ -78,6 +78,7 @@ abbrev pub blank : Instruction → Instruction
 blank (Arithmetic op dtype sat s) = Arithmetic op dtype sat (blankScalar s)
 blank (Vset cmp s) = Vset cmp (blankScalar s)
 blank (VsetLanes cmp l) = VsetLanes cmp (blankLanes l)
+blank (ArithmeticLanes op dtype sat l) = ArithmeticLanes op dtype sat (blankLanes l)
 blank (Set dtype d s) = Set dtype noWord (blankComparison s)
 blank (Setp d s) = Setp (One noPred) (blankComparison s)
 blank (Selp s c) = Selp (blankChoice (s .dtype)) noPred
