@@ -41,7 +41,6 @@ unfolding typedBy
 returns-3 c =
     simp (
       c .before .s2 .given .1,
-      c .before .before .before .sat-end .ensures,
       c .before .before .before .before .before .d .given .1,
     )
 
