@@ -34,6 +34,8 @@ use Rattle.names.proofs.arith_number.Kinds as arith-number-kinds
 use Rattle.names.proofs.arith_number.Reads as arith-number
 use Rattle.names.proofs.lanes_number.Kinds as lanes-number-kinds
 use Rattle.names.proofs.lanes_number.Reads as lanes-number
+use Rattle.names.proofs.lane_arith_number.Kinds as lane-arith-number-kinds
+use Rattle.names.proofs.lane_arith_number.Reads as lane-arith-number
 use Rattle.names.proofs.selector_number.Kinds as selector-number-kinds
 use Rattle.names.proofs.selector_number.Reads as selector-number
 use Rattle.names.proofs.opcode_of.Kinds as opcode-of-kinds
@@ -83,6 +85,9 @@ arith-number-one-outcome κs a x y s t p q = spells-one p q
 
 pub lanes-number-one-outcome : (κs : Lfts 0) (a : Dens κs lanes-number-kinds.ps) (x y : ℕ) (s t : AtExit (endedOf 0 lanes-number-kinds.ps lanes-number-kinds.r) κs) → lanes-number.Post κs a x s → lanes-number.Post κs a y t → x ≡ y
 lanes-number-one-outcome κs a x y s t p q = spells-one p q
+
+pub lane-arith-number-one-outcome : (κs : Lfts 0) (a : Dens κs lane-arith-number-kinds.ps) (x y : ℕ) (s t : AtExit (endedOf 0 lane-arith-number-kinds.ps lane-arith-number-kinds.r) κs) → lane-arith-number.Post κs a x s → lane-arith-number.Post κs a y t → x ≡ y
+lane-arith-number-one-outcome κs a x y s t p q = spells-one p q
 
 pub selector-number-one-outcome : (κs : Lfts 0) (a : Dens κs selector-number-kinds.ps) (x y : ℕ) (s t : AtExit (endedOf 0 selector-number-kinds.ps selector-number-kinds.r) κs) → selector-number.Post κs a x s → selector-number.Post κs a y t → x ≡ y
 selector-number-one-outcome κs a x y s t p q = spells-one p q

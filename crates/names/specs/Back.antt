@@ -11,7 +11,7 @@ use Rattle.base.specs.PackLaws.{short-code}
 use Rattle.base.specs.Text.{bytes}
 use Rattle.base.specs.Values.{every, StandsAt, Values, at-place, each}
 use Rattle.rules.specs.Shape.{Name}
-use Rattle.rules.specs.Names.{videoTypeName, setTypeName, typeName, sixName, cmpName, boolName, op2Name, arithName, lanesName, selectorName}
+use Rattle.rules.specs.Names.{videoTypeName, setTypeName, typeName, sixName, cmpName, boolName, op2Name, arithName, lanesName, laneArithName, selectorName}
 use Rattle.rules.specs.Choices.{videoTypes, setTypes, types, sixes, cmps, boolOps, op2s, selectors}
 use Rattle.record.specs.declared.VideoType.{VideoType}
 use Rattle.record.specs.declared.SetType.{SetType}
@@ -21,6 +21,8 @@ use Rattle.record.specs.declared.CmpOp.{CmpOp}
 use Rattle.record.specs.declared.BoolOp.{BoolOp}
 use Rattle.record.specs.declared.Op2.{Op2}
 use Rattle.record.specs.declared.Arith.the-variants.{Vadd, Vsub, Vabsdiff, Vmin, Vmax}
+use Rattle.record.specs.declared.LaneArith
+use Rattle.record.specs.declared.LaneArith.{LaneArith}
 use Rattle.record.specs.declared.LaneWidth.the-variants.{Half, Byte}
 use Rattle.record.specs.declared.Selector.{Selector}
 use Rattle.names.specs.declared.Opcode
@@ -116,15 +118,16 @@ abbrev pub opcodeName : Opcode → Name
 opcodeName (Opcode.Scalar op) = arithName op
 opcodeName Opcode.Vset = bytes "vset"
 opcodeName (Opcode.Lanes w) = lanesName w
+opcodeName (Opcode.LaneArithmetic op w) = laneArithName op w
 opcodeName Opcode.Set = bytes "set"
 opcodeName Opcode.Setp = bytes "setp"
 opcodeName Opcode.Selp = bytes "selp"
 opcodeName Opcode.Slct = bytes "slct"
 
 abbrev pub opcodes : Values Opcode
-opcodes = record { list = (Opcode.Scalar Vadd) ∷ (Opcode.Scalar Vsub) ∷ (Opcode.Scalar Vabsdiff) ∷ (Opcode.Scalar Vmin) ∷ (Opcode.Scalar Vmax) ∷ Opcode.Vset ∷ (Opcode.Lanes Half) ∷ (Opcode.Lanes Byte) ∷ Opcode.Set ∷ Opcode.Setp ∷ Opcode.Selp ∷ Opcode.Slct ∷ []; listed = place }
+opcodes = record { list = (Opcode.Scalar Vadd) ∷ (Opcode.Scalar Vsub) ∷ (Opcode.Scalar Vabsdiff) ∷ (Opcode.Scalar Vmin) ∷ (Opcode.Scalar Vmax) ∷ Opcode.Vset ∷ (Opcode.Lanes Half) ∷ (Opcode.Lanes Byte) ∷ (Opcode.LaneArithmetic (LaneArith.Scalar Vadd) Half) ∷ (Opcode.LaneArithmetic (LaneArith.Scalar Vsub) Half) ∷ (Opcode.LaneArithmetic LaneArith.Vavrg Half) ∷ (Opcode.LaneArithmetic (LaneArith.Scalar Vabsdiff) Half) ∷ (Opcode.LaneArithmetic (LaneArith.Scalar Vmin) Half) ∷ (Opcode.LaneArithmetic (LaneArith.Scalar Vmax) Half) ∷ (Opcode.LaneArithmetic (LaneArith.Scalar Vadd) Byte) ∷ (Opcode.LaneArithmetic (LaneArith.Scalar Vsub) Byte) ∷ (Opcode.LaneArithmetic LaneArith.Vavrg Byte) ∷ (Opcode.LaneArithmetic (LaneArith.Scalar Vabsdiff) Byte) ∷ (Opcode.LaneArithmetic (LaneArith.Scalar Vmin) Byte) ∷ (Opcode.LaneArithmetic (LaneArith.Scalar Vmax) Byte) ∷ Opcode.Set ∷ Opcode.Setp ∷ Opcode.Selp ∷ Opcode.Slct ∷ []; listed = place }
   where
-    place : (t : Opcode) → (i : ℕ) × StandsAt i ((Opcode.Scalar Vadd) ∷ (Opcode.Scalar Vsub) ∷ (Opcode.Scalar Vabsdiff) ∷ (Opcode.Scalar Vmin) ∷ (Opcode.Scalar Vmax) ∷ Opcode.Vset ∷ (Opcode.Lanes Half) ∷ (Opcode.Lanes Byte) ∷ Opcode.Set ∷ Opcode.Setp ∷ Opcode.Selp ∷ Opcode.Slct ∷ []) t
+    place : (t : Opcode) → (i : ℕ) × StandsAt i ((Opcode.Scalar Vadd) ∷ (Opcode.Scalar Vsub) ∷ (Opcode.Scalar Vabsdiff) ∷ (Opcode.Scalar Vmin) ∷ (Opcode.Scalar Vmax) ∷ Opcode.Vset ∷ (Opcode.Lanes Half) ∷ (Opcode.Lanes Byte) ∷ (Opcode.LaneArithmetic (LaneArith.Scalar Vadd) Half) ∷ (Opcode.LaneArithmetic (LaneArith.Scalar Vsub) Half) ∷ (Opcode.LaneArithmetic LaneArith.Vavrg Half) ∷ (Opcode.LaneArithmetic (LaneArith.Scalar Vabsdiff) Half) ∷ (Opcode.LaneArithmetic (LaneArith.Scalar Vmin) Half) ∷ (Opcode.LaneArithmetic (LaneArith.Scalar Vmax) Half) ∷ (Opcode.LaneArithmetic (LaneArith.Scalar Vadd) Byte) ∷ (Opcode.LaneArithmetic (LaneArith.Scalar Vsub) Byte) ∷ (Opcode.LaneArithmetic LaneArith.Vavrg Byte) ∷ (Opcode.LaneArithmetic (LaneArith.Scalar Vabsdiff) Byte) ∷ (Opcode.LaneArithmetic (LaneArith.Scalar Vmin) Byte) ∷ (Opcode.LaneArithmetic (LaneArith.Scalar Vmax) Byte) ∷ Opcode.Set ∷ Opcode.Setp ∷ Opcode.Selp ∷ Opcode.Slct ∷ []) t
     place (Opcode.Scalar Vadd) = (0, refl)
     place (Opcode.Scalar Vsub) = (1, refl)
     place (Opcode.Scalar Vabsdiff) = (2, refl)
@@ -133,10 +136,22 @@ opcodes = record { list = (Opcode.Scalar Vadd) ∷ (Opcode.Scalar Vsub) ∷ (Opc
     place Opcode.Vset = (5, refl)
     place (Opcode.Lanes Half) = (6, refl)
     place (Opcode.Lanes Byte) = (7, refl)
-    place Opcode.Set = (8, refl)
-    place Opcode.Setp = (9, refl)
-    place Opcode.Selp = (10, refl)
-    place Opcode.Slct = (11, refl)
+    place (Opcode.LaneArithmetic (LaneArith.Scalar Vadd) Half) = (8, refl)
+    place (Opcode.LaneArithmetic (LaneArith.Scalar Vsub) Half) = (9, refl)
+    place (Opcode.LaneArithmetic LaneArith.Vavrg Half) = (10, refl)
+    place (Opcode.LaneArithmetic (LaneArith.Scalar Vabsdiff) Half) = (11, refl)
+    place (Opcode.LaneArithmetic (LaneArith.Scalar Vmin) Half) = (12, refl)
+    place (Opcode.LaneArithmetic (LaneArith.Scalar Vmax) Half) = (13, refl)
+    place (Opcode.LaneArithmetic (LaneArith.Scalar Vadd) Byte) = (14, refl)
+    place (Opcode.LaneArithmetic (LaneArith.Scalar Vsub) Byte) = (15, refl)
+    place (Opcode.LaneArithmetic LaneArith.Vavrg Byte) = (16, refl)
+    place (Opcode.LaneArithmetic (LaneArith.Scalar Vabsdiff) Byte) = (17, refl)
+    place (Opcode.LaneArithmetic (LaneArith.Scalar Vmin) Byte) = (18, refl)
+    place (Opcode.LaneArithmetic (LaneArith.Scalar Vmax) Byte) = (19, refl)
+    place Opcode.Set = (20, refl)
+    place Opcode.Setp = (21, refl)
+    place Opcode.Selp = (22, refl)
+    place Opcode.Slct = (23, refl)
 
 -- ==== each choice
 

@@ -7,6 +7,7 @@ use record::CmpF;
 use record::CmpOp;
 use record::CmpU;
 use record::DataType;
+use record::LaneArith;
 use record::LaneWidth;
 use record::Op2;
 use record::Selector;
@@ -15,7 +16,9 @@ use record::VideoType;
 ghost use Rattle.base.specs.Pack.{Spells};
 ghost use Rattle.names.specs.Back.{Means, OpcodeBack, VideoBack, SetTypeBack, TypeBack, SixBack, CmpBack, BoolBack, Op2Back, SelectorBack};
 ghost use Rattle.record.specs.declared.CmpOp.the-variants.{Unsigned, Float};
-ghost use Rattle.rules.specs.Names.{videoTypeName, setTypeName, typeName, sixName, cmpName, boolName, op2Name, arithName, lanesName, selectorName};
+ghost use Rattle.record.specs.declared.LaneArith.the-variants.{Scalar};
+ghost use Rattle.record.specs.declared.LaneWidth.the-variants.{Half, Byte};
+ghost use Rattle.rules.specs.Names.{videoTypeName, setTypeName, typeName, sixName, cmpName, boolName, op2Name, arithName, lanesName, laneArithName, selectorName};
 
 // ---- opcodes
 
@@ -34,6 +37,30 @@ pub const VSET: u64 = 244939254;
 pub const VSET2: u64 = 13666712054;
 
 pub const VSET4: u64 = 14203582966;
+
+pub const VADD2: u64 = 13633138934;
+
+pub const VSUB2: u64 = 13629225462;
+
+pub const VAVRG2: u64 = 1745876791542;
+
+pub const VABSDIFF2: u64 = 3660752832748368118;
+
+pub const VMIN2: u64 = 13654193910;
+
+pub const VMAX2: u64 = 13675034358;
+
+pub const VADD4: u64 = 14170009846;
+
+pub const VSUB4: u64 = 14166096374;
+
+pub const VAVRG4: u64 = 1814596268278;
+
+pub const VABSDIFF4: u64 = 3804868020824223990;
+
+pub const VMIN4: u64 = 14191064822;
+
+pub const VMAX4: u64 = 14211905270;
 
 pub const SET: u64 = 1913587;
 
@@ -257,6 +284,45 @@ pub fn lanes_number(t: LaneWidth) -> u64
     }
 }
 
+fn half_number(t: Arith) -> u64
+    ensures { λ r. ⌜ Spells 9 r (laneArithName (Scalar t) Half) ⌝ }
+{
+    match t {
+        Arith::Vadd => VADD2,
+        Arith::Vsub => VSUB2,
+        Arith::Vabsdiff => VABSDIFF2,
+        Arith::Vmin => VMIN2,
+        Arith::Vmax => VMAX2,
+    }
+}
+
+fn byte_number(t: Arith) -> u64
+    ensures { λ r. ⌜ Spells 9 r (laneArithName (Scalar t) Byte) ⌝ }
+{
+    match t {
+        Arith::Vadd => VADD4,
+        Arith::Vsub => VSUB4,
+        Arith::Vabsdiff => VABSDIFF4,
+        Arith::Vmin => VMIN4,
+        Arith::Vmax => VMAX4,
+    }
+}
+
+pub fn lane_arith_number(t: LaneArith, w: LaneWidth) -> u64
+    ensures { λ r. ⌜ Spells 9 r (laneArithName t w) ⌝ }
+{
+    match t {
+        LaneArith::Scalar(op) => match w {
+            LaneWidth::Half => half_number(op),
+            LaneWidth::Byte => byte_number(op),
+        },
+        LaneArith::Vavrg => match w {
+            LaneWidth::Half => VAVRG2,
+            LaneWidth::Byte => VAVRG4,
+        },
+    }
+}
+
 pub fn selector_number(t: Selector) -> u64
     ensures { λ r. ⌜ Spells 2 r (selectorName t) ⌝ }
 {
@@ -276,6 +342,7 @@ pub enum Opcode {
     Scalar(Arith),
     Vset,
     Lanes(LaneWidth),
+    LaneArithmetic(LaneArith, LaneWidth),
     Set,
     Setp,
     Selp,
@@ -339,6 +406,48 @@ pub fn opcode_of(x: u64) -> OpcodeName
         VSET => OpcodeName::Is(Opcode::Vset),
         VSET2 => OpcodeName::Is(Opcode::Lanes(LaneWidth::Half)),
         VSET4 => OpcodeName::Is(Opcode::Lanes(LaneWidth::Byte)),
+        VADD2 => OpcodeName::Is(Opcode::LaneArithmetic(
+            LaneArith::Scalar(Arith::Vadd),
+            LaneWidth::Half,
+        )),
+        VSUB2 => OpcodeName::Is(Opcode::LaneArithmetic(
+            LaneArith::Scalar(Arith::Vsub),
+            LaneWidth::Half,
+        )),
+        VAVRG2 => OpcodeName::Is(Opcode::LaneArithmetic(LaneArith::Vavrg, LaneWidth::Half)),
+        VABSDIFF2 => OpcodeName::Is(Opcode::LaneArithmetic(
+            LaneArith::Scalar(Arith::Vabsdiff),
+            LaneWidth::Half,
+        )),
+        VMIN2 => OpcodeName::Is(Opcode::LaneArithmetic(
+            LaneArith::Scalar(Arith::Vmin),
+            LaneWidth::Half,
+        )),
+        VMAX2 => OpcodeName::Is(Opcode::LaneArithmetic(
+            LaneArith::Scalar(Arith::Vmax),
+            LaneWidth::Half,
+        )),
+        VADD4 => OpcodeName::Is(Opcode::LaneArithmetic(
+            LaneArith::Scalar(Arith::Vadd),
+            LaneWidth::Byte,
+        )),
+        VSUB4 => OpcodeName::Is(Opcode::LaneArithmetic(
+            LaneArith::Scalar(Arith::Vsub),
+            LaneWidth::Byte,
+        )),
+        VAVRG4 => OpcodeName::Is(Opcode::LaneArithmetic(LaneArith::Vavrg, LaneWidth::Byte)),
+        VABSDIFF4 => OpcodeName::Is(Opcode::LaneArithmetic(
+            LaneArith::Scalar(Arith::Vabsdiff),
+            LaneWidth::Byte,
+        )),
+        VMIN4 => OpcodeName::Is(Opcode::LaneArithmetic(
+            LaneArith::Scalar(Arith::Vmin),
+            LaneWidth::Byte,
+        )),
+        VMAX4 => OpcodeName::Is(Opcode::LaneArithmetic(
+            LaneArith::Scalar(Arith::Vmax),
+            LaneWidth::Byte,
+        )),
         SET => OpcodeName::Is(Opcode::Set),
         SETP => OpcodeName::Is(Opcode::Setp),
         SELP => OpcodeName::Is(Opcode::Selp),

@@ -51,7 +51,7 @@ use Rattle.record.specs.declared.Record.{Record}
 use Rattle.rules.specs.Numbers.{lanes, bit}
 use Rattle.rules.specs.Executing.{Place, operandPlace}
 use Rattle.rules.specs.Shape.{Name, dotted, headText, numberText, registerText, OperandTree, bare, operandText, guardText}
-use Rattle.rules.specs.Names.{videoTypeName, setTypeName, typeName, sixName, cmpName, boolName, op2Name, arithName, widthName, laneArithStem, when, formOp2, combinationNames, headNames, selectorName, digitsName}
+use Rattle.rules.specs.Names.{videoTypeName, setTypeName, typeName, sixName, cmpName, boolName, op2Name, arithName, lanesName, laneArithName, when, formOp2, combinationNames, headNames, selectorName, digitsName}
 use Rattle.rules.specs.Choices.{videoTypes, setTypes, types, sixes, cmps, boolOps, op2s, ariths, laneAriths, widths, selectors}
 use Rattle.rules.specs.StandardLine.{r, p, selectedTree, formTree, formLast, sameMask, sameDigits, maskTree, digitsTree, conditionTree, combinationLast, destinationTree, lanesTrees, operandTrees, guardPart, further, operandsText, standard}
 
@@ -109,8 +109,8 @@ six-length = long sixName 2 sixes refl
 op2-length : (op : Op2) → length (op2Name op) ≡ 3
 op2-length = long op2Name 3 op2s refl
 
-width-length : (w : LaneWidth) → length (widthName w) ≡ 1
-width-length = long widthName 1 widths refl
+lanes-length : (w : LaneWidth) → length (lanesName w) ≡ 5
+lanes-length = long lanesName 5 widths refl
 
 selector-length : (sel : Selector) → length (selectorName sel) ≡ 2
 selector-length = long selectorName 2 selectors refl
@@ -123,13 +123,13 @@ lane-length : (t : Bool) (b : ℕ) → length (cond t (b ∷ []) []) ≡ bit t
 lane-length true b = refl
 lane-length false b = refl
 
-ruleset lengths = (length-append, after-append, video-length, set-length, type-length, six-length, op2-length, width-length, selector-length, digits-length, lane-length)
+ruleset lengths = (length-append, after-append, video-length, set-length, type-length, six-length, op2-length, lanes-length, selector-length, digits-length, lane-length)
 
 arith-short : (op : Arith) → length (arithName op) ≤ 8
 arith-short = short arithName 8 ariths refl
 
-lane-arith-short : (op : LaneArith) → length (laneArithStem op) ≤ 8
-lane-arith-short = short laneArithStem 8 laneAriths refl
+lane-arith-short : (op : LaneArith) (w : LaneWidth) → length (laneArithName op w) ≤ 9
+lane-arith-short op = short (laneArithName op) 9 widths (each (λ op. every (λ w. leb (length (laneArithName op w)) 9) (widths .list)) laneAriths refl op)
 
 cmp-short : (op : CmpOp) → length (cmpName op) ≤ 3
 cmp-short = short cmpName 3 cmps refl
@@ -236,7 +236,7 @@ instruction-short (Vset cmp s) h = let k = simp and-eq-true-iff at h in simp len
 instruction-short (VsetLanes cmp l) h = simp lengths (omega (arith, when-short (l .add) (bytes "add"), lanes-short l h))
 instruction-short (ArithmeticLanes op dtype sat l) h =
     simp lengths
-    (omega (arith, lane-arith-short op, when-short sat (bytes "sat"), when-short (l .add) (bytes "add"), lanes-short l h))
+    (omega (arith, lane-arith-short op (l .width), when-short sat (bytes "sat"), when-short (l .add) (bytes "add"), lanes-short l h))
 instruction-short (Set dtype d s) h =
     let k = simp and-eq-true-iff at h in
     simp lengths (omega (arith, cmp-short (s .cmp), when-short (s .ftz) (bytes "ftz"), number-short, operand-short, combination-short))

@@ -107,14 +107,9 @@ arithName Vabsdiff = bytes "vabsdiff"
 arithName Vmin = bytes "vmin"
 arithName Vmax = bytes "vmax"
 
--- the forms with 2 and 4
-abbrev pub widthName : LaneWidth → List ℕ
-widthName Half = bytes "2"
-widthName Byte = bytes "4"
-
--- vset2, vset4
 abbrev pub lanesName : LaneWidth → Name
-lanesName w = bytes "vset" ++ widthName w
+lanesName Half = bytes "vset2"
+lanesName Byte = bytes "vset4"
 
 -- T-01: vadd2, vsub2, vavrg2, vabsdiff2, vmin2, vmax2 and the six with 4. vavrg alone is no opcode
 abbrev pub laneArithStem : LaneArith → List ℕ
@@ -122,7 +117,8 @@ laneArithStem (LaneArith.Scalar op) = arithName op
 laneArithStem LaneArith.Vavrg = bytes "vavrg"
 
 abbrev pub laneArithName : LaneArith → LaneWidth → Name
-laneArithName op w = laneArithStem op ++ widthName w
+laneArithName op Half = laneArithStem op ++ bytes "2"
+laneArithName op Byte = laneArithStem op ++ bytes "4"
 
 -- Braces mark what may be left out
 abbrev pub when : Bool → Name → List Name
