@@ -14,7 +14,7 @@ use Rattle.record.specs.declared.Destination.the-variants.{One, Pair, First, Se
 use Rattle.record.specs.declared.Operand
 use Rattle.record.specs.declared.Operand.{Operand}
 use Rattle.record.specs.declared.Instruction.{Instruction}
-use Rattle.record.specs.declared.Instruction.the-variants.{Arithmetic, Vset, VsetLanes, Set, Setp, Selp, Slct}
+use Rattle.record.specs.declared.Instruction.the-variants.{Arithmetic, Vset, VsetLanes, ArithmeticLanes, Set, Setp, Selp, Slct}
 use Rattle.record.specs.declared.Record.{Record}
 use Rattle.rules.specs.Executing.{Files, operandPlace, kept, destinationWrites, writes, put, putAll, after, sizesFit, predsFit, guardHolds, firstRefusal, done, skipped, refused, outcome, run}
 use Rattle.execute.specs.Mirror.{operandWrite, writeOf, predsWith, written}
@@ -40,6 +40,7 @@ unfolding writeOf written after writes
 instruction-written (Arithmetic op dtype sat s) f = refl
 instruction-written (Vset cmp s) f = refl
 instruction-written (VsetLanes cmp l) f = refl
+instruction-written (ArithmeticLanes op dtype sat l) f = refl
 instruction-written (Set dtype d s) f = refl
 instruction-written (Setp d s) f = destination-written d _ _ f
 instruction-written (Selp s c) f = operand-written (s .d) _ f

@@ -7,6 +7,7 @@ use Rattle.record.specs.declared.Arith.{Arith}
 use Rattle.record.specs.declared.Choice.{Choice}
 use Rattle.record.specs.declared.Cmp6.{Cmp6}
 use Rattle.record.specs.declared.Comparison.{Comparison}
+use Rattle.record.specs.declared.LaneArith.{LaneArith}
 use Rattle.record.specs.declared.Lanes.{Lanes}
 use Rattle.record.specs.declared.Pred.{Pred}
 use Rattle.record.specs.declared.Scalar.{Scalar}
@@ -19,9 +20,9 @@ use Rattle.record.specs.declared.Destination.the-variants.{One, Pair, First, Se
 use Rattle.record.specs.declared.Operand
 use Rattle.record.specs.declared.Operand.{Operand}
 use Rattle.record.specs.declared.Instruction.{Instruction}
-use Rattle.record.specs.declared.Instruction.the-variants.{Arithmetic, Vset, VsetLanes, Set, Setp, Selp, Slct}
+use Rattle.record.specs.declared.Instruction.the-variants.{Arithmetic, Vset, VsetLanes, ArithmeticLanes, Set, Setp, Selp, Slct}
 use Rattle.rules.specs.Numbers.{bit, wordSize}
-use Rattle.rules.specs.Execution.{arithmeticOf, vsetOf, lanesOf, setOf, selpOf, slctOf}
+use Rattle.rules.specs.Execution.{arithmeticOf, vsetOf, lanesOf, arithmeticLanesOf, setOf, selpOf, slctOf}
 use Rattle.rules.specs.Executing.{Files, files, wordOf, predOf, operandOf, selectedWord, formC, formD, combinedOf, testOf}
 use Rattle.execute.specs.declared.Write
 use Rattle.execute.specs.declared.Write.{Write}
@@ -44,6 +45,10 @@ vsetWrite cmp s words =
 abbrev pub lanesWrite : Cmp6 → Lanes → List ℕ → Write
 lanesWrite cmp l words = Write.Word (l .d) (lanesOf cmp l (wordOf words (l .a)) (wordOf words (l .b)) (wordOf words (l .c)))
 
+abbrev pub arithmeticLanesWrite : LaneArith → VideoType → Bool → Lanes → List ℕ → Write
+arithmeticLanesWrite op dtype sat l words =
+    Write.Word (l .d) (arithmeticLanesOf op dtype sat l (wordOf words (l .a)) (wordOf words (l .b)) (wordOf words (l .c)))
+
 abbrev pub setWrite : SetType → Word → Comparison → List ℕ → List ℕ → List ℕ → Write
 setWrite dtype d s words doubles preds = Write.Word d (setOf dtype (combinedOf preds (s .combination) (testOf words doubles s)))
 
@@ -65,6 +70,7 @@ unfoldable pub writeOf : Instruction → List ℕ → List ℕ → List ℕ → 
 writeOf (Arithmetic op dtype sat s) words doubles preds = arithmeticWrite op dtype sat s words
 writeOf (Vset cmp s) words doubles preds = vsetWrite cmp s words
 writeOf (VsetLanes cmp l) words doubles preds = lanesWrite cmp l words
+writeOf (ArithmeticLanes op dtype sat l) words doubles preds = arithmeticLanesWrite op dtype sat l words
 writeOf (Set dtype d s) words doubles preds = setWrite dtype d s words doubles preds
 writeOf (Setp d s) words doubles preds = setpWrite d s words doubles preds
 writeOf (Selp s c) words doubles preds = selpWrite c s words doubles preds

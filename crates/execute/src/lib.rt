@@ -10,6 +10,7 @@ use record::Double;
 use record::Form;
 use record::Guard;
 use record::Instruction;
+use record::LaneArith;
 use record::Lanes;
 use record::Operand;
 use record::Pred;
@@ -25,7 +26,7 @@ ghost use mathlib.Core.Bool.{cond};
 ghost use lib.ListN.{set};
 ghost use Rattle.rules.specs.Executing.{files, operandOf, selectedWord, formC, formD, conditionHolds, combinedOf, testOf, sizesFit, predsFit, guardHolds, outcome, run};
 ghost use Rattle.execute.specs.Answers.{answerOf};
-ghost use Rattle.execute.specs.Mirror.{operandWrite, arithmeticWrite, vsetWrite, lanesWrite, setWrite, setpWrite, eitherOf, selpWrite, slctWrite, writeOf, predsWith, written};
+ghost use Rattle.execute.specs.Mirror.{operandWrite, arithmeticWrite, vsetWrite, lanesWrite, arithmeticLanesWrite, setWrite, setpWrite, eitherOf, selpWrite, slctWrite, writeOf, predsWith, written};
 
 // Done, skipped (guard false), or refused with document 01's number.
 pub enum Executed {
@@ -161,6 +162,22 @@ fn lanes_write(cmp: Cmp6, l: Lanes, words: &[u32]) -> Write
     Write::Word(d, video::vset_lanes(cmp, l, a, b, c))
 }
 
+fn arithmetic_lanes_write(
+    op: LaneArith,
+    dtype: VideoType,
+    sat: bool,
+    l: Lanes,
+    words: &[u32],
+) -> Write
+    ensures { λ r. ⌜ r ≡ arithmeticLanesWrite op dtype sat l (now (words .entry)) ⌝ }
+{
+    let d = l.d;
+    let a = registers::word_at(words, l.a);
+    let b = registers::word_at(words, l.b);
+    let c = registers::word_at(words, l.c);
+    Write::Word(d, video::arithmetic_lanes(op, dtype, sat, l, a, b, c))
+}
+
 // ---- set and setp
 
 fn condition_holds(c: Condition, preds: &[u8]) -> bool
@@ -266,6 +283,12 @@ fn write_of(r: Record, words: &[u32], doubles: &[u64], preds: &[u8]) -> Write
         } => arithmetic_write(op, dtype, sat, scalar, words),
         Instruction::Vset { cmp, scalar } => vset_write(cmp, scalar, words),
         Instruction::VsetLanes { cmp, lanes } => lanes_write(cmp, lanes, words),
+        Instruction::ArithmeticLanes {
+            op,
+            dtype,
+            sat,
+            lanes,
+        } => arithmetic_lanes_write(op, dtype, sat, lanes, words),
         Instruction::Set {
             dtype,
             d,

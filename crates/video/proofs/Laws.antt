@@ -5,18 +5,19 @@ use native.Mathlib.Omega.{arith}
 use mathlib.Core.Path.{_≡_, refl, sym, ap, _∙_}
 use mathlib.Core.Bool.{Bool, true, false, cond, _&&_}
 use lib.Dec.{ltb, leb, eqb}
+use lib.IntN.{ℤ, pos, negsuc, _+ℤ_}
 use lib.ListN.{getD}
 use mathlib.Core.List.{List}
-use borrow.Author.Tests.{ne-eqb, ltb-true, ltb-false}
-use Rattle.record.specs.declared.Mask.{Mask}
+use borrow.Author.Tests.{ne-eqb, le-leb, ltb-true, ltb-false}
+use Rattle.record.specs.declared.Lanes.{Lanes}
 use Rattle.record.specs.declared.LaneWidth.{LaneWidth}
 use Rattle.record.specs.declared.LaneWidth.the-variants.{Half, Byte}
 use Rattle.base.specs.Lists.{tab}
 use Rattle.base.specs.Moved.{un-low, un-high, un-up, un-down}
-use Rattle.rules.specs.Numbers.{wordSize, size, lanes, partAt, joined, exactOf, lowOf, bit}
-use Rattle.rules.specs.Execution.{replaced, maskAt, count}
-use Rattle.rules.specs.ExecutionLaws.{size-pos, bit-lt, either-lt, part-lt}
-use Rattle.video.specs.Exact.{bias, exactly, rejoinedOf, mergedOf, countedOf}
+use Rattle.rules.specs.Numbers.{wordSize, size, lanes, partAt, joined, exactOf, lowOf}
+use Rattle.rules.specs.Execution.{replaced, mergedLane, merged, averageZ, groupOf}
+use Rattle.rules.specs.ExecutionLaws.{size-pos, either-lt, part-lt, lane-lt, low-lt, group-same}
+use Rattle.video.specs.Exact.{bias, exactly, StandFor, rejoinedOf}
 
 -- ---- parts
 
@@ -88,27 +89,28 @@ replaced-is w k c v h =
     rejoined w (λ i. cond (eqb i k) v (partAt (size w) c i))
     (λ i. either-lt (eqb i k) v (partAt (size w) c i) (size w) h (part-lt (size w) c i (size-pos w)))
 
--- what the arrays of held and kept lanes give
-pub merged-is : (w : LaneWidth) (m : Mask) (h : ℕ → Bool) (c : ℕ)
-    → rejoinedOf w (mergedOf m (tab 4 h) (tab 4 (partAt (size w) c)))
-    ≡ joined (size w) (lanes w) (λ i. cond (maskAt m i) (bit (h i)) (partAt (size w) c i))
-unfolding mergedOf
-merged-is w m h c =
-    rejoined w (λ i. cond (maskAt m i) (bit (h i)) (partAt (size w) c i))
-    (λ i. either-lt (maskAt m i) (bit (h i)) (partAt (size w) c i) (size w) (bit-lt w (h i)) (part-lt (size w) c i (size-pos w)))
+-- what an array of merged lanes gives
+pub merged-is : (l : Lanes) (t : ℕ → ℤ) (c : ℕ)
+    → rejoinedOf (l .width) (tab 4 (mergedLane l (λ i. lowOf (size (l .width)) (t i)) c)) ≡ merged l (λ i. lowOf (size (l .width)) (t i)) c
+merged-is l t c = rejoined (l .width) _ (lane-lt l (λ i. lowOf (size (l .width)) (t i)) (λ i. low-lt (size (l .width)) (t i) (size-pos (l .width))) c)
 
-pub counted-is : (w : LaneWidth) (m : Mask) (h : ℕ → Bool) → countedOf w m (tab 4 h) ≡ count (lanes w) (λ i. maskAt m i && h i)
-unfolding countedOf
-counted-is Half m h = refl
-counted-is Byte m h = refl
+-- ---- the group of four numbers in an array
 
--- the counts of the code, which stop at the last lane
-pub two-counted : (m : Mask) (h : List Bool) → bit (m .lane0 && getD h 0 false) + bit (m .lane1 && getD h 1 false) ≡ countedOf Half m h
-unfolding countedOf
-two-counted m h = omega arith
+-- only the numbers that they stand for count
+pub stand-group : (l : Lanes) (t : List ℕ) (f : ℕ → ℤ) (c : ℕ) → StandFor t f → groupOf l (λ i. exactly (getD t i 0)) c ≡ groupOf l f c
+stand-group l t f c h = group-same l (λ i. exactly (getD t i 0)) f c (λ i p. each (l .width) i p)
+  where
+    each : (w : LaneWidth) (i : ℕ) → i < lanes w → exactly (getD t i 0) ≡ f i
+    each w zero p = h .0
+    each w (suc zero) p = h .1
+    each w (suc (suc zero)) p = h .2
+    each w (suc (suc (suc zero))) p = h .3
+    each Half (suc (suc (suc (suc i)))) p = absurd (omega arith)
+    each Byte (suc (suc (suc (suc i)))) p = absurd (omega arith)
 
-pub four-counted : (m : Mask) (h : List Bool)
-    → bit (m .lane0 && getD h 0 false) + (bit (m .lane1 && getD h 1 false) + (bit (m .lane2 && getD h 2 false) + bit (m .lane3 && getD h 3 false)))
-    ≡ countedOf Byte m h
-unfolding countedOf
-four-counted m h = omega arith
+-- the average of two numbers whose sum z stands for, by the sign of the sum
+pub average-high : (x y z : ℕ) → exactly z ≡ exactly x +ℤ exactly y → bias ≤ z → exactly ((z + bias + 1) / 2) ≡ averageZ (exactly x) (exactly y)
+average-high x y z e h = rw (← e, un-high bias z h, le-leb 0 (z - bias) (omega arith), un-high bias ((z + bias + 1) / 2) (omega arith)) (ap pos (omega arith))
+
+pub average-low : (x y z : ℕ) → exactly z ≡ exactly x +ℤ exactly y → z < bias → exactly ((z + bias) / 2) ≡ averageZ (exactly x) (exactly y)
+average-low x y z e h = rw (← e, un-low bias z h, un-low bias ((z + bias) / 2) (omega arith)) (ap negsuc (omega arith))

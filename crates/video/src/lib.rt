@@ -1,9 +1,10 @@
-// Scalar video, and the lanes of vset2 and vset4, as functions of the numbers that the registers hold.
-// Inside, an exact number z is kept as z + 2^36, so that none is below zero.
+// Scalar video, and the forms with 2 and 4 lanes, as functions of the numbers that the registers hold.
+// Inside, an exact number z is kept as z + 2^40, so that none is below zero.
 use record::Arith;
 use record::Cmp6;
 use record::Digits;
 use record::Form;
+use record::LaneArith;
 use record::LaneWidth;
 use record::Lanes;
 use record::Mask;
@@ -14,16 +15,16 @@ use record::Selector;
 use record::VideoType;
 use registers::WORD_SIZE;
 ghost use mathlib.Core.Path.{_≡_};
-ghost use mathlib.Core.Bool.{cond, false};
+ghost use mathlib.Core.Bool.{cond};
 ghost use Prim.Native.Nat.{_+_, _%_, _^_, _<_, _≤_};
-ghost use lib.IntN.{_+ℤ_, _-ℤ_};
-ghost use Rattle.base.specs.Lists.{tab};
+ghost use lib.IntN.{pos, _+ℤ_, _-ℤ_};
+ghost use lib.ListN.{getD};
 ghost use Rattle.rules.specs.Numbers.{wordSize, size, lanes, partAt, exactOf, isSigned, lowOf, minZ, maxZ, bit, holdsZ};
-ghost use Rattle.rules.specs.Execution.{selectorWidth, selectorPart, selectedOf, arithZ, lowestZ, highestZ, formSize, clampedOf, op2Z, replaced, formOf, arithmeticOf, vsetOf, digitAt, numbered, laneHolds, lanesOf};
-ghost use Rattle.video.specs.Exact.{bias, exactly, Near, Wide, rejoinedOf, mergedOf, countedOf};
+ghost use Rattle.rules.specs.Execution.{selectorWidth, selectorPart, selectedOf, arithZ, lowestZ, highestZ, formSize, clampedOf, op2Z, replaced, formOf, arithmeticOf, vsetOf, maskAt, numbered, laneNumber, laneHolds, merged, lanesOf, averageZ, laneArithZ, laneResult, sumZ, groupOf, arithmeticLanesOf};
+ghost use Rattle.video.specs.Exact.{bias, exactly, Near, Wide, StandFor, AllNear, AllWide, rejoinedOf};
 
-// What every exact number is moved up by: 2^36.
-const BIAS: u64 = 68719476736;
+// What every exact number is moved up by: 2^40.
+const BIAS: u64 = 1099511627776;
 // How many values a half and a byte have.
 const HALF_SIZE: u32 = 65536;
 
@@ -143,7 +144,7 @@ fn most(x: u64, y: u64) -> u64
 }
 
 fn sum(x: u64, y: u64) -> u64
-    requires { ⌜ Wide x × Wide y ⌝ }
+    requires { ⌜ (bias ≤ x + y) × (x + y < 2 ^ 64) ⌝ }
     ensures { λ r. ⌜ (exactly r ≡ exactly x +ℤ exactly y) × (r + bias ≡ x + y) ⌝ }
 {
     x + y - BIAS
@@ -154,6 +155,12 @@ fn difference(x: u64, y: u64) -> u64
     ensures { λ r. ⌜ (exactly r ≡ exactly x -ℤ exactly y) × Wide r ⌝ }
 {
     x + BIAS - y
+}
+
+fn truth(cmp: Cmp6, x: u64, y: u64) -> u64
+    ensures { λ r. ⌜ (exactly r ≡ pos (bit (holdsZ cmp (exactly x) (exactly y)))) × Wide r ⌝ }
+{
+    wide(registers::bit_of(holds(cmp, x, y))) + BIAS
 }
 
 // ---- the operations of scalar video
@@ -332,11 +339,15 @@ pub fn vset(cmp: Cmp6, s: Scalar, a: u32, b: u32, c: u32) -> u32
     let sa = s.a;
     let sb = s.b;
     let f = s.form;
-    let t = holds(cmp, selected(ta, sa, a), selected(tb, sb, b));
-    formed(false, f, c, number(false, WORD_SIZE, registers::bit_of(t)))
+    formed(
+        false,
+        f,
+        c,
+        truth(cmp, selected(ta, sa, a), selected(tb, sb, b)),
+    )
 }
 
-// ---- vset2 and vset4: the lanes are handled as one small group
+// ---- the forms with 2 and 4: the lanes are handled as one small group
 
 // Part k, counted through a first and then b.
 fn numbered_part(w: LaneWidth, a: u32, b: u32, k: u8) -> u32
@@ -349,90 +360,154 @@ fn numbered_part(w: LaneWidth, a: u32, b: u32, k: u8) -> u32
     part(w, b, k - n)
 }
 
-fn picked(w: LaneWidth, s: Digits, a: u32, b: u32) -> [u32; 4]
-    ensures { λ r. ⌜ r ≡ tab 4 (λ i. numbered w a b (digitAt s i)) ⌝ }
+// What a selector picks for each lane, as an exact number by the type on its side.
+fn picked(w: LaneWidth, t: VideoType, s: Digits, a: u32, b: u32) -> [u64; 4]
+    ensures { λ r. ⌜ StandFor r (laneNumber w t s a b) × AllNear r ⌝ }
 {
+    let sign = signed(t);
+    let n = wide(lane_size(w));
     [
-        numbered_part(w, a, b, s.lane0),
-        numbered_part(w, a, b, s.lane1),
-        numbered_part(w, a, b, s.lane2),
-        numbered_part(w, a, b, s.lane3),
+        number(sign, n, numbered_part(w, a, b, s.lane0)),
+        number(sign, n, numbered_part(w, a, b, s.lane1)),
+        number(sign, n, numbered_part(w, a, b, s.lane2)),
+        number(sign, n, numbered_part(w, a, b, s.lane3)),
     ]
 }
 
-fn parts(w: LaneWidth, x: u32) -> [u32; 4]
-    ensures { λ r. ⌜ r ≡ tab 4 (partAt (size w) x) ⌝ }
+// A lane that the mask does not name adds nothing.
+fn addend(masked: bool, z: u64) -> u64
+    requires { ⌜ Wide z ⌝ }
+    ensures { λ r. ⌜ (exactly r ≡ cond masked (exactly z) (pos 0)) × Wide r ⌝ }
 {
-    [part(w, x, 0), part(w, x, 1), part(w, x, 2), part(w, x, 3)]
+    if masked { z } else { BIAS }
 }
 
-fn lane_holds(cmp: Cmp6, w: LaneWidth, asigned: bool, bsigned: bool, x: u32, y: u32) -> bool
-    ensures { λ r. ⌜ r ≡ holdsZ cmp (exactOf asigned (size w) x) (exactOf bsigned (size w) y) ⌝ }
+// The sum of the masked lanes' results, which stops at the last lane of the width.
+fn total(w: LaneWidth, m: Mask, t: [u64; 4]) -> u64
+    requires { ⌜ AllWide t ⌝ }
+    ensures { λ r. ⌜ (exactly r ≡ sumZ (lanes w) (λ i. cond (maskAt m i) (exactly (getD t i 0)) (pos 0))) × (bias ≤ r + 2 ^ 36) × (r < bias + 2 ^ 36) ⌝ }
 {
-    let n = wide(lane_size(w));
-    holds(cmp, number(asigned, n, x), number(bsigned, n, y))
+    let t0 = addend(m.lane0, t[0]);
+    let t1 = addend(m.lane1, t[1]);
+    let t2 = addend(m.lane2, t[2]);
+    let t3 = addend(m.lane3, t[3]);
+    match w {
+        LaneWidth::Half => sum(t0, sum(t1, BIAS)),
+        LaneWidth::Byte => sum(t0, sum(t1, sum(t2, sum(t3, BIAS)))),
+    }
 }
 
-// Which lanes hold.
-fn held(cmp: Cmp6, l: Lanes, a: u32, b: u32) -> [bool; 4]
-    ensures { λ r. ⌜ r ≡ tab 4 (laneHolds cmp l a b) ⌝ }
+// Masked lanes get the low bits of their results, the others keep c's part.
+fn merge(l: Lanes, t: [u64; 4], c: u32) -> u32
+    ensures { λ r. ⌜ r ≡ merged l (λ i. lowOf (size (l .width)) (exactly (getD t i 0))) c ⌝ }
+{
+    let w = l.width;
+    let m = l.mask;
+    let v = [
+        either(m.lane0, low_part(w, t[0]), part(w, c, 0)),
+        either(m.lane1, low_part(w, t[1]), part(w, c, 1)),
+        either(m.lane2, low_part(w, t[2]), part(w, c, 2)),
+        either(m.lane3, low_part(w, t[3]), part(w, c, 3)),
+    ];
+    rejoin(w, v)
+}
+
+// What d gets of the lanes' exact results and c.
+fn group(l: Lanes, t: [u64; 4], c: u32) -> u32
+    requires { ⌜ AllWide t ⌝ }
+    ensures { λ r. ⌜ r ≡ groupOf l (λ i. exactly (getD t i 0)) c ⌝ }
+{
+    if l.add {
+        let w = l.width;
+        return low(sum(wide(c) + BIAS, total(w, l.mask, t)));
+    }
+    merge(l, t, c)
+}
+
+// 1 for each lane that holds, 0 for the others.
+fn held(cmp: Cmp6, l: Lanes, a: u32, b: u32) -> [u64; 4]
+    ensures { λ r. ⌜ StandFor r (λ i. pos (bit (laneHolds cmp l a b i))) × AllWide r ⌝ }
 {
     let w = l.width;
     let ta = l.atype;
     let tb = l.btype;
-    let asigned = signed(ta);
-    let bsigned = signed(tb);
-    let x = picked(w, l.asel, a, b);
-    let y = picked(w, l.bsel, a, b);
+    let x = picked(w, ta, l.asel, a, b);
+    let y = picked(w, tb, l.bsel, a, b);
     [
-        lane_holds(cmp, w, asigned, bsigned, x[0], y[0]),
-        lane_holds(cmp, w, asigned, bsigned, x[1], y[1]),
-        lane_holds(cmp, w, asigned, bsigned, x[2], y[2]),
-        lane_holds(cmp, w, asigned, bsigned, x[3], y[3]),
+        truth(cmp, x[0], y[0]),
+        truth(cmp, x[1], y[1]),
+        truth(cmp, x[2], y[2]),
+        truth(cmp, x[3], y[3]),
     ]
-}
-
-fn lane(masked: bool, t: bool, keep: u32) -> u32
-    ensures { λ r. ⌜ r ≡ cond masked (bit t) keep ⌝ }
-{
-    either(masked, registers::bit_of(t), keep)
-}
-
-// Masked lanes get 1 or 0, the others keep c's part.
-fn merged(m: Mask, h: [bool; 4], c: [u32; 4]) -> [u32; 4]
-    ensures { λ r. ⌜ r ≡ mergedOf m h c ⌝ }
-{
-    [
-        lane(m.lane0, h[0], c[0]),
-        lane(m.lane1, h[1], c[1]),
-        lane(m.lane2, h[2], c[2]),
-        lane(m.lane3, h[3], c[3]),
-    ]
-}
-
-// How many masked lanes hold.
-fn counted(w: LaneWidth, m: Mask, h: [bool; 4]) -> u32
-    ensures { λ r. ⌜ (r ≡ countedOf w m h) × (r ≤ 4) ⌝ }
-{
-    let n0 = registers::bit_of(m.lane0 & h[0]);
-    let n1 = registers::bit_of(m.lane1 & h[1]);
-    let n2 = registers::bit_of(m.lane2 & h[2]);
-    let n3 = registers::bit_of(m.lane3 & h[3]);
-    match w {
-        LaneWidth::Half => n0 + n1,
-        LaneWidth::Byte => n0 + (n1 + (n2 + n3)),
-    }
 }
 
 // What vset2 or vset4 gives of a, b and c.
 pub fn vset_lanes(cmp: Cmp6, l: Lanes, a: u32, b: u32, c: u32) -> u32
     ensures { λ r. ⌜ r ≡ lanesOf cmp l a b c ⌝ }
 {
-    let w = l.width;
-    let m = l.mask;
-    let h = held(cmp, l, a, b);
-    if l.add {
-        return ((wide(c) + wide(counted(w, m, h))) % WORD_SIZE) as u32;
+    group(l, held(cmp, l, a, b), c)
+}
+
+// Halving rounds down, BIAS being even; 1 is added first when the sum is at or above zero.
+fn average(x: u64, y: u64) -> u64
+    requires { ⌜ Near x × Near y ⌝ }
+    ensures { λ r. ⌜ (exactly r ≡ averageZ (exactly x) (exactly y)) × Wide r ⌝ }
+{
+    let z = sum(x, y);
+    if BIAS <= z {
+        return (z + BIAS + 1) / 2;
     }
-    rejoin(w, merged(m, h, parts(w, c)))
+    (z + BIAS) / 2
+}
+
+fn apply_lane(op: LaneArith, x: u64, y: u64) -> u64
+    requires { ⌜ Near x × Near y ⌝ }
+    ensures { λ r. ⌜ (exactly r ≡ laneArithZ op (exactly x) (exactly y)) × Wide r ⌝ }
+{
+    match op {
+        LaneArith::Scalar(o) => apply(o, x, y),
+        LaneArith::Vavrg => average(x, y),
+    }
+}
+
+// A lane's result, clamped before the group is merged or added.
+fn lane_result(op: LaneArith, signed: bool, sat: bool, n: u64, x: u64, y: u64) -> u64
+    requires { ⌜ (2 ≤ n) × (n ≤ 2 ^ 32) ⌝ }
+    requires { ⌜ Near x × Near y ⌝ }
+    ensures { λ r. ⌜ (exactly r ≡ clampedOf sat signed n (laneArithZ op (exactly x) (exactly y))) × Wide r ⌝ }
+{
+    clamped(sat, signed, n, apply_lane(op, x, y))
+}
+
+fn results(op: LaneArith, dtype: VideoType, sat: bool, l: Lanes, a: u32, b: u32) -> [u64; 4]
+    ensures { λ r. ⌜ StandFor r (laneResult op dtype sat l a b) × AllWide r ⌝ }
+{
+    let w = l.width;
+    let ta = l.atype;
+    let tb = l.btype;
+    let sign = signed(dtype);
+    let n = wide(lane_size(w));
+    let x = picked(w, ta, l.asel, a, b);
+    let y = picked(w, tb, l.bsel, a, b);
+    [
+        lane_result(op, sign, sat, n, x[0], y[0]),
+        lane_result(op, sign, sat, n, x[1], y[1]),
+        lane_result(op, sign, sat, n, x[2], y[2]),
+        lane_result(op, sign, sat, n, x[3], y[3]),
+    ]
+}
+
+// What vadd2, vsub2, vavrg2, vabsdiff2, vmin2, vmax2 or one of the six with 4 gives of a, b and c.
+pub fn arithmetic_lanes(
+    op: LaneArith,
+    dtype: VideoType,
+    sat: bool,
+    l: Lanes,
+    a: u32,
+    b: u32,
+    c: u32,
+) -> u32
+    ensures { λ r. ⌜ r ≡ arithmeticLanesOf op dtype sat l a b c ⌝ }
+{
+    group(l, results(op, dtype, sat, l, a, b), c)
 }

@@ -1,88 +1,100 @@
+use mathlib.Core.Path.{refl}
 use Rattle.rules.specs.Execution.{laneHolds}
 use borrow.Author.Needs.{needs}
 use Rattle.video.proofs.held.Statement.{statement}
 use Rattle.video.proofs.held.Tie as tie
 
-signed-requires : tie.Need-signed-requires
-signed-requires c κs = search needs
-
-signed-requires-2 : tie.Need-signed-requires-2
-signed-requires-2 c κs = search needs
-
+-- src/lib.rt:429:13
 picked-requires : tie.Need-picked-requires
 picked-requires c κs = search needs
 
+-- src/lib.rt:430:13
 picked-requires-2 : tie.Need-picked-requires-2
 picked-requires-2 c κs = search needs
 
-array-read-lane-holds : tie.Need-array-read-lane-holds
-array-read-lane-holds c = search needs
+-- src/lib.rt:432:20
+array-read-truth : tie.Need-array-read-truth
+array-read-truth c = search needs
 
-array-read-lane-holds-2 : tie.Need-array-read-lane-holds-2
-array-read-lane-holds-2 c = search needs
+-- src/lib.rt:432:26
+array-read-truth-2 : tie.Need-array-read-truth-2
+array-read-truth-2 c = search needs
 
-lane-holds-requires : tie.Need-lane-holds-requires
-lane-holds-requires c κs = search needs
+-- src/lib.rt:432:9
+truth-requires : tie.Need-truth-requires
+truth-requires c κs = search needs
 
-array-read-lane-holds-3 : tie.Need-array-read-lane-holds-3
-array-read-lane-holds-3 c = search needs
+-- src/lib.rt:433:20
+array-read-truth-3 : tie.Need-array-read-truth-3
+array-read-truth-3 c = search needs
 
-array-read-lane-holds-4 : tie.Need-array-read-lane-holds-4
-array-read-lane-holds-4 c = search needs
+-- src/lib.rt:433:26
+array-read-truth-4 : tie.Need-array-read-truth-4
+array-read-truth-4 c = search needs
 
-lane-holds-requires-2 : tie.Need-lane-holds-requires-2
-lane-holds-requires-2 c κs = search needs
+-- src/lib.rt:433:9
+truth-requires-2 : tie.Need-truth-requires-2
+truth-requires-2 c κs = search needs
 
-array-read-lane-holds-5 : tie.Need-array-read-lane-holds-5
-array-read-lane-holds-5 c = search needs
+-- src/lib.rt:434:20
+array-read-truth-5 : tie.Need-array-read-truth-5
+array-read-truth-5 c = search needs
 
-array-read-lane-holds-6 : tie.Need-array-read-lane-holds-6
-array-read-lane-holds-6 c = search needs
+-- src/lib.rt:434:26
+array-read-truth-6 : tie.Need-array-read-truth-6
+array-read-truth-6 c = search needs
 
-lane-holds-requires-3 : tie.Need-lane-holds-requires-3
-lane-holds-requires-3 c κs = search needs
+-- src/lib.rt:434:9
+truth-requires-3 : tie.Need-truth-requires-3
+truth-requires-3 c κs = search needs
 
-array-read-lane-holds-7 : tie.Need-array-read-lane-holds-7
-array-read-lane-holds-7 c = search needs
+-- src/lib.rt:435:20
+array-read-truth-7 : tie.Need-array-read-truth-7
+array-read-truth-7 c = search needs
 
-array-read-lane-holds-8 : tie.Need-array-read-lane-holds-8
-array-read-lane-holds-8 c = search needs
+-- src/lib.rt:435:26
+array-read-truth-8 : tie.Need-array-read-truth-8
+array-read-truth-8 c = search needs
 
-lane-holds-requires-4 : tie.Need-lane-holds-requires-4
-lane-holds-requires-4 c κs = search needs
+-- src/lib.rt:435:9
+truth-requires-4 : tie.Need-truth-requires-4
+truth-requires-4 c κs = search needs
 
+-- src/lib.rt:423:1
 returns : tie.Need-returns
 unfolding laneHolds
-returns c =
-    simp (
-      c .lane-holds4 .ensures,
-      c .before .lane-holds3 .ensures,
-      c .before .before .lane-holds2 .ensures,
-      c .before .before .before .lane-holds .ensures,
-      c .before .before .before .before .picked2 .ensures,
-      c .before .before .before .before .before .picked .ensures,
-      c .before .before .before .before .before .before .signed2 .ensures,
-      c .before .before .before .before .before .before .before .signed .ensures,
-    )
+returns c = simp (
+  c .before .before .before .truth .ensures .0,
+  c .before .before .truth2 .ensures .0,
+  c .before .truth3 .ensures .0,
+  c .truth4 .ensures .0,
+  c .before .before .before .before .picked2 .ensures .0 .0,
+  c .before .before .before .before .before .picked .ensures .0 .0,
+  c .before .before .before .before .picked2 .ensures .0 .1,
+  c .before .before .before .before .before .picked .ensures .0 .1,
+  c .before .before .before .before .picked2 .ensures .0 .2,
+  c .before .before .before .before .before .picked .ensures .0 .2,
+  c .before .before .before .before .picked2 .ensures .0 .3,
+  c .before .before .before .before .before .picked .ensures .0 .3,
+)
+    ((refl, refl, refl, refl), (c .before .before .before .truth .ensures .1, c .before .before .truth2 .ensures .1, c .before .truth3 .ensures .1, c .truth4 .ensures .1))
 
 pub held-spec : {M : Type 1} → statement M
 held-spec =
     tie.close
     (tie.spec
-    signed-requires
-    signed-requires-2
     picked-requires
     picked-requires-2
-    array-read-lane-holds
-    array-read-lane-holds-2
-    lane-holds-requires
-    array-read-lane-holds-3
-    array-read-lane-holds-4
-    lane-holds-requires-2
-    array-read-lane-holds-5
-    array-read-lane-holds-6
-    lane-holds-requires-3
-    array-read-lane-holds-7
-    array-read-lane-holds-8
-    lane-holds-requires-4
+    array-read-truth
+    array-read-truth-2
+    truth-requires
+    array-read-truth-3
+    array-read-truth-4
+    truth-requires-2
+    array-read-truth-5
+    array-read-truth-6
+    truth-requires-3
+    array-read-truth-7
+    array-read-truth-8
+    truth-requires-4
     returns)

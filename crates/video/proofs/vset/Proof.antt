@@ -6,53 +6,36 @@ use denote.Triple.Clauses.{AtExit}
 use Rattle.base.specs.Promise.{one-outcome}
 use Rattle.video.proofs.vset.Reads as reads
 use Rattle.video.proofs.vset.Kinds as kinds
-use Rattle.rules.specs.Numbers.{exactOf}
 use Rattle.rules.specs.Execution.{vsetOf}
 use borrow.Author.Needs.{needs}
 use Rattle.video.proofs.vset.Statement.{statement}
 use Rattle.video.proofs.vset.Tie as tie
 
+-- src/lib.rt:342:36
 selected-requires : tie.Need-selected-requires
 selected-requires c κs = search needs
 
+-- src/lib.rt:342:57
 selected-requires-2 : tie.Need-selected-requires-2
 selected-requires-2 c κs = search needs
 
-holds-requires : tie.Need-holds-requires
-holds-requires c κs = search needs
+-- src/lib.rt:342:25
+truth-requires : tie.Need-truth-requires
+truth-requires c κs = search needs
 
-bit-of-requires : tie.Need-bit-of-requires
-bit-of-requires c κs = search needs
-
-number-requires : tie.Need-number-requires
-number-requires c κs = search needs
-
+-- src/lib.rt:342:5
 formed-requires : tie.Need-formed-requires
 formed-requires c κs = search needs
 
+-- src/lib.rt:334:1
 returns : tie.Need-returns
-unfolding vsetOf exactOf
-returns c =
-    simp (
-      c .formed .ensures,
-      c .before .number .ensures .0,
-      c .before .before .bit-of .ensures .0,
-      c .before .before .before .holds .ensures,
-      c .before .before .before .before .selected2 .ensures .0,
-      c .before .before .before .before .before .selected .ensures .0,
-    )
+unfolding vsetOf
+returns c = simp (c .formed .ensures, c .before .truth .ensures .0, c .before .before .selected2 .ensures .0, c .before .before .before .selected .ensures .0)
 
 pub vset-spec : {M : Type 1} → statement M
 vset-spec =
     tie.close
-    (tie.spec
-    selected-requires
-    selected-requires-2
-    holds-requires
-    bit-of-requires
-    number-requires
-    formed-requires
-    returns)
+    (tie.spec selected-requires selected-requires-2 truth-requires formed-requires returns)
 
 -- no two outcomes satisfy the contract as it stands in src/lib.rt
 pub vset-one-outcome :

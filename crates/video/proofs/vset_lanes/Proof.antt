@@ -1,84 +1,34 @@
-use mathlib.Core.Path.{_≡_}
+use Rattle.video.proofs.vset_lanes.Reads as reads
+use lib.IntN.{pos}
+use Rattle.rules.specs.Numbers.{bit}
+use Rattle.rules.specs.Execution.{laneHolds}
+use mathlib.Core.Path.{_≡_, sym, _∙_}
 use Prim.Native.Nat.{ℕ}
 use contract.Lifetimes.{Lfts}
 use borrow.Fn.Kinds.{Dens, endedOf}
 use denote.Triple.Clauses.{AtExit}
 use Rattle.base.specs.Promise.{one-outcome}
-use Rattle.video.proofs.vset_lanes.Reads as reads
 use Rattle.video.proofs.vset_lanes.Kinds as kinds
-use Rattle.rules.specs.Execution.{laneHolds}
-use Rattle.video.proofs.Laws.{counted-is, merged-is}
-use Rattle.rules.specs.Execution.{lanesOf}
+use Rattle.rules.specs.ExecutionLaws.{vset-group}
+use Rattle.video.proofs.Laws.{stand-group}
 use borrow.Author.Needs.{needs}
 use Rattle.video.proofs.vset_lanes.Statement.{statement}
 use Rattle.video.proofs.vset_lanes.Tie as tie
 
+-- src/lib.rt:443:14
 held-requires : tie.Need-held-requires
 held-requires c κs = search needs
 
-wide-requires : tie.Need-wide-requires
-wide-requires c κs = search needs
+-- src/lib.rt:443:5
+group-requires : tie.Need-group-requires
+group-requires c κs = search needs
 
-counted-requires : tie.Need-counted-requires
-counted-requires c κs = search needs
-
-wide-requires-2 : tie.Need-wide-requires-2
-wide-requires-2 c κs = search needs
-
-add-result : tie.Need-add-result
-add-result c = search needs
-
-cast-result : tie.Need-cast-result
-cast-result c = search needs
-
+-- src/lib.rt:440:1
 returns : tie.Need-returns
-unfolding lanesOf
-returns c =
-    simp (
-      c .wide2 .ensures .0,
-      c .before .counted .ensures .0,
-      c .before .before .wide .ensures .0,
-      c .before .before .before .if1 .taken,
-      c .before .before .before .before .held .ensures,
-      counted-is,
-    )
-
-parts-requires : tie.Need-parts-requires
-parts-requires c κs = search needs
-
-merged-requires : tie.Need-merged-requires
-merged-requires c κs = search needs
-
-rejoin-requires : tie.Need-rejoin-requires
-rejoin-requires c κs = search needs
-
-returns-2 : tie.Need-returns-2
-unfolding lanesOf
-returns-2 c =
-    simp (
-      c .rejoin .ensures,
-      c .before .merged .ensures,
-      c .before .before .parts .ensures,
-      c .before .before .before .if1 .left,
-      c .before .before .before .before .held .ensures,
-    )
-    (merged-is _ _ (laneHolds (c .before .before .before .before .before .before .args .cmp) (c .before .before .before .before .before .before .args .l) (c .before .before .before .before .before .before .args .a) (c .before .before .before .before .before .before .args .b)) (c .before .before .before .before .before .before .args .c))
+returns c = rw (c .group .ensures) (stand-group (c .before .before .args .l) (c .before .held .result) (λ i. pos (bit (laneHolds (c .before .before .args .cmp) (c .before .before .args .l) (c .before .before .args .a) (c .before .before .args .b) i))) (c .before .before .args .c) (c .before .held .ensures .0) ∙ sym (vset-group (c .before .before .args .cmp) (c .before .before .args .l) (c .before .before .args .a) (c .before .before .args .b) (c .before .before .args .c)))
 
 pub vset-lanes-spec : {M : Type 1} → statement M
-vset-lanes-spec =
-    tie.close
-    (tie.spec
-    held-requires
-    wide-requires
-    counted-requires
-    wide-requires-2
-    add-result
-    cast-result
-    returns
-    parts-requires
-    merged-requires
-    rejoin-requires
-    returns-2)
+vset-lanes-spec = tie.close (tie.spec held-requires group-requires returns)
 
 -- no two outcomes satisfy the contract as it stands in src/lib.rt
 pub vset-lanes-one-outcome :
