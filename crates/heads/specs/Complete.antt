@@ -16,6 +16,7 @@ use Rattle.record.specs.declared.DataType.{DataType}
 use Rattle.record.specs.declared.CmpOp.{CmpOp}
 use Rattle.record.specs.declared.Cmp6.{Cmp6}
 use Rattle.record.specs.declared.Arith.{Arith}
+use Rattle.record.specs.declared.LaneArith.{LaneArith}
 use Rattle.record.specs.declared.LaneWidth.{LaneWidth}
 use Rattle.record.specs.declared.Form.{Form}
 use Rattle.record.specs.declared.Form.the-variants.{Plain, Merge, Combine}
@@ -23,9 +24,9 @@ use Rattle.record.specs.declared.Combination.{Combination}
 use Rattle.record.specs.declared.Combination.the-variants.{Alone, With}
 use Rattle.record.specs.declared.Destination.the-variants.{One}
 use Rattle.record.specs.declared.Instruction.{Instruction}
-use Rattle.record.specs.declared.Instruction.the-variants.{Arithmetic, Vset, VsetLanes, Set, Setp, Selp, Slct}
+use Rattle.record.specs.declared.Instruction.the-variants.{Arithmetic, Vset, VsetLanes, ArithmeticLanes, Set, Setp, Selp, Slct}
 use Rattle.rules.specs.Shape.{Name}
-use Rattle.rules.specs.Names.{videoTypeName, setTypeName, typeName, sixName, cmpName, arithName, lanesName, when, formOp2, combinationNames, headNames}
+use Rattle.rules.specs.Names.{videoTypeName, setTypeName, typeName, sixName, cmpName, arithName, lanesName, laneArithName, when, formOp2, combinationNames, headNames}
 use Rattle.tree.specs.Seen.{seenHead}
 use Rattle.tree.specs.Blank.{noWord, noPred, blankForm, blankCombination, blankChoice, blank}
 use Rattle.tree.specs.declared.Head.{Head}
@@ -43,7 +44,7 @@ use Rattle.heads.specs.declared.Tested.{Tested}
 use Rattle.heads.specs.declared.Found
 use Rattle.heads.specs.declared.Found.{Found}
 use Rattle.heads.specs.Tables.{slctTypeOf}
-use Rattle.heads.specs.Rows.{nameAt, past, wholeOf, scalarOf, lanesOf, comparisonOf, sidesBy, sidesAt, comparedBy, comparedOf, endingBy, endingAt, arithmeticBy, arithmeticOf, vsetBy, vsetOf, lanesBy, lanesRow, testAt, testedBy, testedOf, setBy, setAt, setFrom, setOf, setpBy, setpAt, setpFrom, setpOf, selpBy, selpOf, slctBy, slctAt, slctOf, readOf, foundOf, rowBy, rowOf}
+use Rattle.heads.specs.Rows.{nameAt, past, wholeOf, scalarOf, lanesOf, comparisonOf, sidesBy, sidesAt, comparedBy, comparedOf, endingBy, endingAt, typedBy, typedOf, arithmeticBy, arithmeticFrom, arithmeticOf, vsetBy, vsetOf, lanesBy, lanesRow, laneArithmeticBy, laneArithmeticFrom, laneArithmeticOf, testAt, testedBy, testedOf, setBy, setAt, setFrom, setOf, setpBy, setpAt, setpFrom, setpOf, selpBy, selpOf, slctBy, slctAt, slctOf, readOf, foundOf, rowBy, rowOf}
 use Rattle.names.specs.Back.{opcodeName, opcode-complete, video-complete, set-type-complete, type-complete, six-complete, cmp-complete, bool-complete, op2-complete}
 use Rattle.heads.specs.NameLaws.{op2-none, op2-sat, Skips, type-skips, set-type-skips, ftz-bool}
 
@@ -74,13 +75,23 @@ lanes-complete c w a b false = rw (compared-complete (lanesName w) a b c [])
 arithmetic-complete : (op : Arith) (d a b : VideoType) (sat : Bool) (f : Form)
     → arithmeticOf op (seenHead (arithName op ∷ videoTypeName d ∷ videoTypeName a ∷ videoTypeName b ∷ (when sat (bytes "sat") ++ formOp2 f)))
     ≡ Read.Is (Arithmetic op d sat (scalarOf a b (blankForm f)))
-unfolding arithmeticOf arithmeticBy sidesAt sidesBy endingAt endingBy wholeOf nameAt seenHead
+unfolding arithmeticOf arithmeticFrom arithmeticBy typedOf typedBy sidesAt sidesBy endingAt endingBy wholeOf nameAt seenHead
 arithmetic-complete op d a b true (Plain e) = rw (short-code (bytes "sat") refl, video-complete d, video-complete a, video-complete b, op2-none)
 arithmetic-complete op d a b true (Merge e sel g) = rw (short-code (bytes "sat") refl, video-complete d, video-complete a, video-complete b, op2-none)
 arithmetic-complete op d a b true (Combine o e g) = rw (short-code (bytes "sat") refl, video-complete d, video-complete a, video-complete b, op2-complete o)
 arithmetic-complete op d a b false (Plain e) = rw (video-complete d, video-complete a, video-complete b, op2-none)
 arithmetic-complete op d a b false (Merge e sel g) = rw (video-complete d, video-complete a, video-complete b, op2-none)
 arithmetic-complete op d a b false (Combine o e g) = rw (op2-sat o, video-complete d, video-complete a, video-complete b, op2-complete o)
+
+lane-arithmetic-complete : (op : LaneArith) (w : LaneWidth) (d a b : VideoType) (sat add : Bool)
+    → laneArithmeticOf op w
+    (seenHead (laneArithName op w ∷ videoTypeName d ∷ videoTypeName a ∷ videoTypeName b ∷ (when sat (bytes "sat") ++ when add (bytes "add"))))
+    ≡ Read.Is (ArithmeticLanes op d sat (lanesOf w a b add))
+unfolding laneArithmeticOf laneArithmeticFrom laneArithmeticBy typedOf typedBy sidesAt sidesBy wholeOf nameAt seenHead codeOf
+lane-arithmetic-complete op w d a b true true = rw (video-complete d, video-complete a, video-complete b)
+lane-arithmetic-complete op w d a b true false = rw (video-complete d, video-complete a, video-complete b)
+lane-arithmetic-complete op w d a b false true = rw (video-complete d, video-complete a, video-complete b)
+lane-arithmetic-complete op w d a b false false = rw (video-complete d, video-complete a, video-complete b)
 
 -- ==== set, setp
 
@@ -157,6 +168,8 @@ unfolding readOf
 row-complete (Arithmetic op d sat s) = read-complete (Opcode.Scalar op) _ _ (arithmetic-complete op d (s .atype) (s .btype) sat (s .form))
 row-complete (Vset c s) = read-complete Opcode.Vset _ _ (vset-complete c (s .atype) (s .btype) (s .form))
 row-complete (VsetLanes c l) = read-complete (Opcode.Lanes (l .width)) _ _ (lanes-complete c (l .width) (l .atype) (l .btype) (l .add))
+row-complete (ArithmeticLanes op d sat l) =
+    read-complete (Opcode.LaneArithmetic op (l .width)) _ _ (lane-arithmetic-complete op (l .width) d (l .atype) (l .btype) sat (l .add))
 row-complete (Set d w s) = read-complete Opcode.Set _ _ (set-complete d (s .cmp) (s .combination) (s .ftz) (s .stype))
 row-complete (Setp d s) = read-complete Opcode.Setp _ _ (setp-complete (s .cmp) (s .combination) (s .ftz) (s .stype))
 row-complete (Selp s c) = read-complete Opcode.Selp _ _ (selp-complete (s .dtype))
@@ -183,6 +196,7 @@ pub fit-blank : (i : Instruction) → instructionModifiersFit (blank i) ≡ inst
 fit-blank (Arithmetic op d sat s) = refl
 fit-blank (Vset c s) = refl
 fit-blank (VsetLanes c l) = refl
+fit-blank (ArithmeticLanes op d sat l) = refl
 fit-blank (Set d w s) = refl
 fit-blank (Setp d s) = refl
 fit-blank (Selp s c) = refl

@@ -4,7 +4,7 @@ use native.Mathlib.Omega.{arith}
 use native.Mathlib.Numerals.{add-one}
 use mathlib.Core.Path.{_≡_, refl, sym, ap, _∙_, subst}
 use mathlib.Core.Bool.{Bool, true, false, not, _&&_, cond}
-use mathlib.Core.List.{List, [], _∷_, _++_, map}
+use mathlib.Core.List.{List, [], _∷_, _++_, map, append-nil}
 use borrow.Author.Tests.{eqb-true, ltb-true}
 use lib.Dec.{eqb, ltb}
 use lib.ListN.{length, getD, take, drop, replicate, drop-of-length-le}
@@ -17,6 +17,8 @@ use Rattle.record.specs.declared.DataType.{DataType}
 use Rattle.record.specs.declared.CmpOp.{CmpOp}
 use Rattle.record.specs.declared.Cmp6.{Cmp6}
 use Rattle.record.specs.declared.Arith.{Arith}
+use Rattle.record.specs.declared.LaneArith
+use Rattle.record.specs.declared.LaneArith.{LaneArith}
 use Rattle.record.specs.declared.Arith.the-variants.{Vadd, Vsub, Vabsdiff, Vmin, Vmax}
 use Rattle.record.specs.declared.LaneWidth.{LaneWidth}
 use Rattle.record.specs.declared.LaneWidth.the-variants.{Half, Byte}
@@ -24,7 +26,7 @@ use Rattle.record.specs.declared.Combination.{Combination}
 use Rattle.record.specs.declared.Combination.the-variants.{Alone, With}
 use Rattle.record.specs.declared.Destination.the-variants.{One}
 use Rattle.record.specs.declared.Instruction.{Instruction}
-use Rattle.record.specs.declared.Instruction.the-variants.{Arithmetic, Vset, VsetLanes, Set, Setp, Selp, Slct}
+use Rattle.record.specs.declared.Instruction.the-variants.{Arithmetic, Vset, VsetLanes, ArithmeticLanes, Set, Setp, Selp, Slct}
 use Rattle.rules.specs.Shape.{Name}
 use Rattle.rules.specs.Names.{videoTypeName, setTypeName, typeName, sixName, cmpName, boolName, op2Name, when, formOp2, combinationNames, headNames}
 use Rattle.rules.specs.Grammar.{GoodName, GoodNames}
@@ -60,6 +62,9 @@ use Rattle.heads.specs.declared.Sides
 use Rattle.heads.specs.declared.Sides.{Sides}
 use Rattle.heads.specs.declared.Compared
 use Rattle.heads.specs.declared.Compared.{Compared}
+use Rattle.heads.specs.declared.Typed.{Typed}
+use Rattle.heads.specs.declared.TypedFound
+use Rattle.heads.specs.declared.TypedFound.{TypedFound}
 use Rattle.heads.specs.declared.Test.{Test}
 use Rattle.heads.specs.declared.Tested
 use Rattle.heads.specs.declared.Tested.{Tested}
@@ -67,7 +72,7 @@ use Rattle.heads.specs.declared.Found
 use Rattle.heads.specs.declared.Found.{Found}
 use Rattle.names.specs.Back.{opcodeOf, videoOf, setTypeOf, typeOf, sixOf, cmpOf, boolOf, op2Of}
 use Rattle.heads.specs.Tables.{slctTypeOf, satCode, ftzCode, addCode, s32Code, f32Code}
-use Rattle.heads.specs.Rows.{nameAt, past, wholeOf, scalarOf, lanesOf, comparisonOf, sidesBy, sidesAt, comparedBy, comparedOf, endingBy, endingAt, satEnd, arithmeticBy, arithmeticOf, vsetBy, vsetOf, lanesBy, lanesRow, testAt, testedBy, testedOf, setBy, setAt, setFrom, setOf, setpBy, setpAt, setpFrom, setpOf, selpBy, selpOf, slctBy, slctAt, slctOf, readOf, foundOf, rowBy, rowOf}
+use Rattle.heads.specs.Rows.{nameAt, past, wholeOf, scalarOf, lanesOf, comparisonOf, sidesBy, sidesAt, comparedBy, comparedOf, endingBy, endingAt, satEnd, typedBy, typedOf, arithmeticBy, arithmeticFrom, arithmeticOf, vsetBy, vsetOf, lanesBy, lanesRow, laneArithmeticBy, laneArithmeticFrom, laneArithmeticOf, testAt, testedBy, testedOf, setBy, setAt, setFrom, setOf, setpBy, setpAt, setpFrom, setpOf, selpBy, selpOf, slctBy, slctAt, slctOf, readOf, foundOf, rowBy, rowOf}
 use Rattle.names.specs.Back.{opcodeName, opcode-complete, opcode-sound, video-sound, set-type-sound, type-sound, six-sound, cmp-sound, bool-sound, op2-sound}
 
 -- ==== the names that a head keeps
@@ -108,6 +113,10 @@ count ns = refl
 pub record RowIs (ns : List Name) (op : Opcode) (i : Instruction) : Type 0 where
   pub names : opcodeName op ∷ drop 1 ns ≡ headNames i
   pub blank : blank i ≡ i
+
+-- the names before OP2 of scalar arithmetic, and before `add` of lane arithmetic
+pub record TypedIs (ns : List Name) (t : Typed) : Type 0 where
+  pub names : drop 1 ns ≡ videoTypeName (t .dtype) ∷ videoTypeName (t .atype) ∷ videoTypeName (t .btype) ∷ (when (t .sat) (bytes "sat") ++ drop (t .next) ns)
 
 -- the names before the types of set and setp
 pub record TestIs (ns : List Name) (t : Test) : Type 0 where
@@ -154,7 +163,17 @@ module _ (ns : List Name) (good : GoodNames ns) where
   ended : (i : ℕ) → length ns ≡ i → drop i ns ≡ []
   ended i e = drop-of-length-le ns {i = i} (omega arith)
 
-  -- ==== scalar arithmetic, vset, vset2, vset4
+  -- a name that may be left out
+  optional-at : (i x : ℕ) (w : Name) → codeOf w ≡ x → isShortName w ≡ true → (t : Bool) → eqb (nameAt (seenHead ns) i) x ≡ t
+      → drop i ns ≡ when t w ++ drop (past t i) ns
+  optional-at i x w e s true h = word-at i x w e s h
+  optional-at i x w e s false h = refl
+
+  -- {add}, at the end of the row
+  add-sound : (i : ℕ) (add : Bool) → eqb (nameAt (seenHead ns) i) addCode ≡ add → length ns ≡ past add i → drop i ns ≡ when add (bytes "add")
+  add-sound i add e h = rw (optional-at i addCode (bytes "add") (short-code (bytes "add") refl) refl add e, ended (past add i) h) (append-nil _)
+
+  -- ==== scalar arithmetic, vset, and the forms with 2 and 4
 
   sides-sound : (i : ℕ) (a b : VideoType) → sidesAt (seenHead ns) i ≡ Sides.Are a b → drop i ns ≡ videoTypeName a ∷ videoTypeName b ∷ drop (i + 1 + 1) ns
   unfolding sidesAt sidesBy
@@ -212,50 +231,54 @@ module _ (ns : List Name) (good : GoodNames ns) where
       go : (x : Compared) → comparedOf (seenHead ns) ≡ x → (add : Bool) → eqb (nameAt (seenHead ns) 4) addCode ≡ add
           → lanesBy (seenHead ns .n) l x add ≡ Read.Is i → RowIs ns (Opcode.Lanes l) i
       go (Compared.Wrong k) p add q e = never k i e
-      go (Compared.Are a b c) p true q e =
-          let w = whole-sound 5 (VsetLanes c (lanesOf l a b true)) i e in
-          subst (RowIs ns (Opcode.Lanes l)) (w .1) (record {
-            names = rw (compared-sound a b c p, word-at 4 addCode (bytes "add") (short-code (bytes "add") refl) refl q, ended 5 (w .0));
-            blank = refl;
+      go (Compared.Are a b c) p add q e =
+          let w = whole-sound (past add 4) (VsetLanes c (lanesOf l a b add)) i e in
+          subst (RowIs ns (Opcode.Lanes l)) (w .1) (record { names = rw (compared-sound a b c p, add-sound 4 add q (w .0)); blank = refl })
+
+  typed-sound : (t : Typed) → typedOf (seenHead ns) ≡ TypedFound.Are t → TypedIs ns t
+  unfolding typedOf typedBy
+  typed-sound t e = go (videoOf (nameAt (seenHead ns) 1)) refl (sidesAt (seenHead ns) 2) refl (eqb (nameAt (seenHead ns) 4) satCode) refl e
+    where
+      go : (x : VideoName) → videoOf (nameAt (seenHead ns) 1) ≡ x → (y : Sides) → sidesAt (seenHead ns) 2 ≡ y
+          → (sat : Bool) → eqb (nameAt (seenHead ns) 4) satCode ≡ sat → typedBy x y sat ≡ TypedFound.Are t → TypedIs ns t
+      go VideoName.Not p y q sat o e = let z : _≡_ {A = ℕ} 0 1 = cc in absurd (omega arith)
+      go (VideoName.Is d) p (Sides.Wrong k) q sat o e = let z : _≡_ {A = ℕ} 0 1 = cc in absurd (omega arith)
+      go (VideoName.Is d) p (Sides.Are a b) q sat o e =
+          let z : record { dtype = d; atype = a; btype = b; sat = sat; next = satEnd sat } ≡ t = cc in
+          subst (TypedIs ns) z (record {
+            names = rw (name-at 1 (videoTypeName d) (video-sound (nameAt (seenHead ns) 1) d p), sides-sound 2 a b q)
+                (ap (λ (l : List Name). videoTypeName d ∷ videoTypeName a ∷ videoTypeName b ∷ l) (optional-at 4 satCode (bytes "sat") (short-code (bytes "sat") refl) refl sat o));
           })
-      go (Compared.Are a b c) p false q e =
-          let w = whole-sound 4 (VsetLanes c (lanesOf l a b false)) i e in
-          subst (RowIs ns (Opcode.Lanes l)) (w .1) (record { names = rw (compared-sound a b c p, ended 4 (w .0)); blank = refl })
 
   arithmetic-sound : (op : Arith) (i : Instruction) → arithmeticOf op (seenHead ns) ≡ Read.Is i → RowIs ns (Opcode.Scalar op) i
-  unfolding arithmeticOf arithmeticBy
-  arithmetic-sound op i e = go (eqb (nameAt (seenHead ns) 4) satCode) refl (videoOf (nameAt (seenHead ns) 1)) refl (sidesAt (seenHead ns) 2) refl e
+  unfolding arithmeticOf arithmeticFrom arithmeticBy
+  arithmetic-sound op i e = go (typedOf (seenHead ns)) refl e
     where
-      go : (sat : Bool) → eqb (nameAt (seenHead ns) 4) satCode ≡ sat → (x : VideoName) → videoOf (nameAt (seenHead ns) 1) ≡ x
-          → (y : Sides) → sidesAt (seenHead ns) 2 ≡ y
-          → arithmeticBy (seenHead ns .n) op x y sat (endingAt (seenHead ns) (satEnd sat)) ≡ Read.Is i → RowIs ns (Opcode.Scalar op) i
-      go sat o VideoName.Not p y q e = never 1 i e
-      go sat o (VideoName.Is d) p (Sides.Wrong k) q e = never k i e
-      go true o (VideoName.Is d) p (Sides.Are a b) q e =
-          let w = whole-sound (endingAt (seenHead ns) 5 .end) (Arithmetic op d true (scalarOf a b (endingAt (seenHead ns) 5 .form))) i e in
-          let f = ending-sound 5 (w .0) in
-          subst (RowIs ns (Opcode.Scalar op)) (w .1) (record {
-            names = rw (name-at 1 (videoTypeName d) (video-sound (nameAt (seenHead ns) 1) d p), sides-sound 2 a b q, word-at 4 satCode (bytes "sat") (short-code (bytes "sat") refl) refl o, f .0);
-            blank = rw (f .1);
-          })
-      go false o (VideoName.Is d) p (Sides.Are a b) q e =
-          let w = whole-sound (endingAt (seenHead ns) 4 .end) (Arithmetic op d false (scalarOf a b (endingAt (seenHead ns) 4 .form))) i e in
-          let f = ending-sound 4 (w .0) in
-          subst (RowIs ns (Opcode.Scalar op)) (w .1) (record {
-            names = rw (name-at 1 (videoTypeName d) (video-sound (nameAt (seenHead ns) 1) d p), sides-sound 2 a b q, f .0);
-            blank = rw (f .1);
-          })
+      go : (x : TypedFound) → typedOf (seenHead ns) ≡ x → arithmeticFrom op (seenHead ns) x ≡ Read.Is i → RowIs ns (Opcode.Scalar op) i
+      go (TypedFound.Wrong k) p e = never k i e
+      go (TypedFound.Are t) p e =
+          let j = endingAt (seenHead ns) (t .next) in
+          let w = whole-sound (j .end) (Arithmetic op (t .dtype) (t .sat) (scalarOf (t .atype) (t .btype) (j .form))) i e in
+          let f = ending-sound (t .next) (w .0) in
+          subst (RowIs ns (Opcode.Scalar op)) (w .1) (record { names = rw (typed-sound t p .names, f .0); blank = rw (f .1) })
+
+  lane-arithmetic-sound : (op : LaneArith) (l : LaneWidth) (i : Instruction) → laneArithmeticOf op l (seenHead ns) ≡ Read.Is i → RowIs ns (Opcode.LaneArithmetic op l) i
+  unfolding laneArithmeticOf laneArithmeticFrom laneArithmeticBy
+  lane-arithmetic-sound op l i e = go (typedOf (seenHead ns)) refl e
+    where
+      go : (x : TypedFound) → typedOf (seenHead ns) ≡ x → laneArithmeticFrom op l (seenHead ns) x ≡ Read.Is i → RowIs ns (Opcode.LaneArithmetic op l) i
+      go (TypedFound.Wrong k) p e = never k i e
+      go (TypedFound.Are t) p e =
+          let add = eqb (nameAt (seenHead ns) (t .next)) addCode in
+          let w = whole-sound (past add (t .next)) (ArithmeticLanes op (t .dtype) (t .sat) (lanesOf l (t .atype) (t .btype) add)) i e in
+          subst (RowIs ns (Opcode.LaneArithmetic op l)) (w .1) (record { names = rw (typed-sound t p .names, add-sound (t .next) add refl (w .0)); blank = refl })
 
   -- ==== set, setp
 
   test-sound : (c : CmpOp) (b : Combination) (i : ℕ)
       → drop i ns ≡ when (testAt (seenHead ns) c b i .ftz) (bytes "ftz") ++ drop (testAt (seenHead ns) c b i .next) ns
   unfolding testAt
-  test-sound c b i = go (eqb (nameAt (seenHead ns) i) ftzCode) refl
-    where
-      go : (ftz : Bool) → eqb (nameAt (seenHead ns) i) ftzCode ≡ ftz → drop i ns ≡ when ftz (bytes "ftz") ++ drop (past ftz i) ns
-      go true e = word-at i ftzCode (bytes "ftz") (short-code (bytes "ftz") refl) refl e
-      go false e = refl
+  test-sound c b i = optional-at i ftzCode (bytes "ftz") (short-code (bytes "ftz") refl) refl (eqb (nameAt (seenHead ns) i) ftzCode) refl
 
   tested-sound : (t : Test) → testedOf (seenHead ns) ≡ Tested.Is t → TestIs ns t
   unfolding testedOf testedBy testAt
@@ -375,6 +398,7 @@ module _ (ns : List Name) (good : GoodNames ns) where
   read-sound (Opcode.Scalar op) i e = arithmetic-sound op i e
   read-sound Opcode.Vset i e = vset-sound i e
   read-sound (Opcode.Lanes w) i e = lanes-sound w i e
+  read-sound (Opcode.LaneArithmetic op w) i e = lane-arithmetic-sound op w i e
   read-sound Opcode.Set i e = set-sound i e
   read-sound Opcode.Setp i e = setp-sound i e
   read-sound Opcode.Selp i e = selp-sound i e
@@ -412,43 +436,7 @@ Opens n = (op : Opcode) × (n ≡ opcodeName op)
 
 listed-opens : (n : Name) → Listed n opcodes → Opens n
 listed-opens n l =
-    of-listed Opens (
-      (Opcode.Scalar Vadd, refl),
-      (
-        (Opcode.Scalar Vsub, refl),
-        (
-          (Opcode.Scalar Vabsdiff, refl),
-          (
-            (Opcode.Scalar Vmin, refl),
-            (
-              (Opcode.Scalar Vmax, refl),
-              (
-                (Opcode.Vset, refl),
-                (
-                  (Opcode.Lanes Half, refl),
-                  (
-                    (Opcode.Lanes Byte, refl),
-                    (
-                      (Opcode.Set, refl),
-                      (
-                        (Opcode.Setp, refl),
-                        (
-                          (Opcode.Selp, refl),
-                          (
-                            (Opcode.Slct, refl),
-                            tt,
-                          ),
-                        ),
-                      ),
-                    ),
-                  ),
-                ),
-              ),
-            ),
-          ),
-        ),
-      ),
-    )
+    of-listed Opens ((Opcode.Scalar Vadd, refl), ((Opcode.Scalar Vsub, refl), ((Opcode.Scalar Vabsdiff, refl), ((Opcode.Scalar Vmin, refl), ((Opcode.Scalar Vmax, refl), ((Opcode.Vset, refl), ((Opcode.Lanes Half, refl), ((Opcode.Lanes Byte, refl), ((Opcode.LaneArithmetic (LaneArith.Scalar Vadd) Half, refl), ((Opcode.LaneArithmetic (LaneArith.Scalar Vsub) Half, refl), ((Opcode.LaneArithmetic LaneArith.Vavrg Half, refl), ((Opcode.LaneArithmetic (LaneArith.Scalar Vabsdiff) Half, refl), ((Opcode.LaneArithmetic (LaneArith.Scalar Vmin) Half, refl), ((Opcode.LaneArithmetic (LaneArith.Scalar Vmax) Half, refl), ((Opcode.LaneArithmetic (LaneArith.Scalar Vadd) Byte, refl), ((Opcode.LaneArithmetic (LaneArith.Scalar Vsub) Byte, refl), ((Opcode.LaneArithmetic LaneArith.Vavrg Byte, refl), ((Opcode.LaneArithmetic (LaneArith.Scalar Vabsdiff) Byte, refl), ((Opcode.LaneArithmetic (LaneArith.Scalar Vmin) Byte, refl), ((Opcode.LaneArithmetic (LaneArith.Scalar Vmax) Byte, refl), ((Opcode.Set, refl), ((Opcode.Setp, refl), ((Opcode.Selp, refl), ((Opcode.Slct, refl), tt))))))))))))))))))))))))
     l
 
 opcode-listed : (op : Opcode) → Listed (opcodeName op) opcodes
@@ -460,10 +448,22 @@ opcode-listed (Opcode.Scalar Vmax) = later (later (later (later (here refl))))
 opcode-listed Opcode.Vset = later (later (later (later (later (here refl)))))
 opcode-listed (Opcode.Lanes Half) = later (later (later (later (later (later (here refl))))))
 opcode-listed (Opcode.Lanes Byte) = later (later (later (later (later (later (later (here refl)))))))
-opcode-listed Opcode.Set = later (later (later (later (later (later (later (later (here refl))))))))
-opcode-listed Opcode.Setp = later (later (later (later (later (later (later (later (later (here refl)))))))))
-opcode-listed Opcode.Selp = later (later (later (later (later (later (later (later (later (later (here refl))))))))))
-opcode-listed Opcode.Slct = later (later (later (later (later (later (later (later (later (later (later (here refl)))))))))))
+opcode-listed (Opcode.LaneArithmetic (LaneArith.Scalar Vadd) Half) = later (later (later (later (later (later (later (later (here refl))))))))
+opcode-listed (Opcode.LaneArithmetic (LaneArith.Scalar Vsub) Half) = later (later (later (later (later (later (later (later (later (here refl)))))))))
+opcode-listed (Opcode.LaneArithmetic LaneArith.Vavrg Half) = later (later (later (later (later (later (later (later (later (later (here refl))))))))))
+opcode-listed (Opcode.LaneArithmetic (LaneArith.Scalar Vabsdiff) Half) = later (later (later (later (later (later (later (later (later (later (later (here refl)))))))))))
+opcode-listed (Opcode.LaneArithmetic (LaneArith.Scalar Vmin) Half) = later (later (later (later (later (later (later (later (later (later (later (later (here refl))))))))))))
+opcode-listed (Opcode.LaneArithmetic (LaneArith.Scalar Vmax) Half) = later (later (later (later (later (later (later (later (later (later (later (later (later (here refl)))))))))))))
+opcode-listed (Opcode.LaneArithmetic (LaneArith.Scalar Vadd) Byte) = later (later (later (later (later (later (later (later (later (later (later (later (later (later (here refl))))))))))))))
+opcode-listed (Opcode.LaneArithmetic (LaneArith.Scalar Vsub) Byte) = later (later (later (later (later (later (later (later (later (later (later (later (later (later (later (here refl)))))))))))))))
+opcode-listed (Opcode.LaneArithmetic LaneArith.Vavrg Byte) = later (later (later (later (later (later (later (later (later (later (later (later (later (later (later (later (here refl))))))))))))))))
+opcode-listed (Opcode.LaneArithmetic (LaneArith.Scalar Vabsdiff) Byte) = later (later (later (later (later (later (later (later (later (later (later (later (later (later (later (later (later (here refl)))))))))))))))))
+opcode-listed (Opcode.LaneArithmetic (LaneArith.Scalar Vmin) Byte) = later (later (later (later (later (later (later (later (later (later (later (later (later (later (later (later (later (later (here refl))))))))))))))))))
+opcode-listed (Opcode.LaneArithmetic (LaneArith.Scalar Vmax) Byte) = later (later (later (later (later (later (later (later (later (later (later (later (later (later (later (later (later (later (later (here refl)))))))))))))))))))
+opcode-listed Opcode.Set = later (later (later (later (later (later (later (later (later (later (later (later (later (later (later (later (later (later (later (later (here refl))))))))))))))))))))
+opcode-listed Opcode.Setp = later (later (later (later (later (later (later (later (later (later (later (later (later (later (later (later (later (later (later (later (later (here refl)))))))))))))))))))))
+opcode-listed Opcode.Selp = later (later (later (later (later (later (later (later (later (later (later (later (later (later (later (later (later (later (later (later (later (later (here refl))))))))))))))))))))))
+opcode-listed Opcode.Slct = later (later (later (later (later (later (later (later (later (later (later (later (later (later (later (later (later (later (later (later (later (later (later (here refl)))))))))))))))))))))))
 
 -- a row that was looked at is not answered by `NoOpcode`
 found-opens : (r : Read) → foundOf r ≡ Found.NoOpcode → ⊥

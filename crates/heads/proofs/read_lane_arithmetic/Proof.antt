@@ -1,0 +1,50 @@
+use Rattle.heads.specs.Rows.{laneArithmeticFrom, laneArithmeticOf}
+use borrow.Author.Needs.{needs}
+use Rattle.heads.proofs.read_lane_arithmetic.Statement.{statement}
+use Rattle.heads.proofs.read_lane_arithmetic.Tie as tie
+use Rattle.heads.proofs.read_lane_arithmetic.Reads as reads
+use Rattle.heads.proofs.read_lane_arithmetic.Lts as lts
+use Rattle.heads.proofs.lane_arithmetic_by.Reads as lane-arithmetic-by-reads
+use Rattle.heads.proofs.name.Reads as name-reads
+use Rattle.heads.proofs.read_typed.Reads as read-typed-reads
+
+read-typed-requires : tie.Need-read-typed-requires
+read-typed-requires c κs = search needs
+
+enum-known-t : tie.Need-enum-known-t
+enum-known-t c = search needs
+
+cast-name : tie.Need-cast-name
+cast-name c = search needs
+
+name-requires : tie.Need-name-requires
+name-requires c κs = search needs
+
+lane-arithmetic-by-requires : tie.Need-lane-arithmetic-by-requires
+lane-arithmetic-by-requires c κs = search needs
+
+returns : tie.Need-returns
+unfolding laneArithmeticOf laneArithmeticFrom
+returns c =
+    rw (← c .before .before .before .before .before .before .read-typed .ensures, c .before .before .before .before .t .given .1, ← c .before .name .ensures)
+    (c .lane-arithmetic-by .ensures)
+
+enum-known-t-2 : tie.Need-enum-known-t-2
+enum-known-t-2 c = search needs
+
+returns-2 : tie.Need-returns-2
+unfolding laneArithmeticOf laneArithmeticFrom
+returns-2 c = rw (← c .before .before .before .read-typed .ensures, c .before .t2 .given .1)
+
+pub read-lane-arithmetic-spec : {M : Type 1} → statement M
+read-lane-arithmetic-spec =
+    tie.close
+    (tie.spec
+    read-typed-requires
+    enum-known-t
+    cast-name
+    name-requires
+    lane-arithmetic-by-requires
+    returns
+    enum-known-t-2
+    returns-2)
