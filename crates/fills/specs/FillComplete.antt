@@ -17,7 +17,8 @@ use Rattle.record.specs.declared.Digits.{Digits}
 use Rattle.record.specs.declared.Form.{Form}
 use Rattle.record.specs.declared.Form.the-variants.{Plain, Merge, Combine}
 use Rattle.record.specs.declared.Instruction.{Instruction}
-use Rattle.record.specs.declared.Instruction.the-variants.{Arithmetic, Vset, VsetLanes, Set, Setp, Selp, Slct}
+use Rattle.record.specs.declared.Instruction.the-variants.{Arithmetic, Vset, VsetLanes, ArithmeticLanes, Set, Setp, Selp, Slct}
+use Rattle.record.specs.declared.LaneArith.{LaneArith}
 use Rattle.record.specs.declared.LaneWidth.{LaneWidth}
 use Rattle.record.specs.declared.Lanes.{Lanes}
 use Rattle.record.specs.declared.Mask.{Mask}
@@ -34,8 +35,8 @@ use Rattle.record.specs.declared.Pred.{Pred}
 use Rattle.rules.specs.Executing.{operandPlace}
 use Rattle.rules.specs.Shape.{OperandTree, bare, part}
 use Rattle.rules.specs.Names.{maskName, digitsName}
-use Rattle.rules.specs.StandardLine.{r, p, sameMask, sameDigits, selectedTree, formTree, formLast, maskTree, digitsTree, conditionTree, combinationLast, destinationTree, operandTrees}
-use Rattle.rules.specs.Reading.{OneOf, as-standard, as-written, Spelled, none, more, OperandsSpell, writtenTrees}
+use Rattle.rules.specs.StandardLine.{r, p, sameMask, sameDigits, selectedTree, formTree, formLast, maskTree, digitsTree, conditionTree, combinationLast, destinationTree, lanesTrees, operandTrees}
+use Rattle.rules.specs.Reading.{OneOf, as-standard, as-written, Spelled, none, more, OperandsSpell, writtenLanes}
 use Rattle.tree.specs.Seen.{seenOperand, seenOperands}
 use Rattle.tree.specs.Blank.{blank, blankScalar, blankLanes, blankComparison, blankChoice}
 use Rattle.kinds.specs.Registers.{bareOperand, conditionOf, destinationOf}
@@ -87,7 +88,7 @@ selected-complete : (s : Selected) → selectedOf (seenOperand (selectedTree s))
 selected-complete (Whole w) = refl
 selected-complete (Part w sel) = rw (selector-complete sel)
 
--- ==== masks and selectors of vset2 and vset4: bare or written out
+-- ==== masks and lane selectors: bare or written out
 
 beq-true : (a b : Bool) → Bool·beq a b ≡ true → a ≡ b
 beq-true true true e = refl
@@ -172,10 +173,10 @@ choice-complete : (s : Choice) (c : OperandTree)
 unfolding choiceOf treeAt seenOperands
 choice-complete s c = rw (operand-complete (s .d), operand-complete (s .a), operand-complete (s .b))
 
-lanes-complete : (cmp : Cmp6) (l : Lanes) {os : List OperandTree} → Spelled os (operandTrees (VsetLanes cmp l)) (writtenTrees (VsetLanes cmp l)) → lanesFit l ≡ true
+lanes-complete : (l : Lanes) {os : List OperandTree} → Spelled os (lanesTrees l) (writtenLanes l) → lanesFit l ≡ true
     → lanesOf (blankLanes l) (seenOperands os) ≡ LanesFound.Is l
 unfolding lanesOf treeAt seenOperands
-lanes-complete cmp l (more {o = x} d (more {o = y} a (more {o = z} b (more {o = u} c none)))) e =
+lanes-complete l (more {o = x} d (more {o = y} a (more {o = z} b (more {o = u} c none)))) e =
     let v = both _ _ e in
     let f = both _ _ (v .0) in
     rw (
@@ -247,10 +248,16 @@ vset-complete cmp s = rw (scalar-complete s)
 
 vset-lanes-complete : (cmp : Cmp6) (l : Lanes) (os : List OperandTree) → OperandsSpell os (VsetLanes cmp l) → filledOf (blank (VsetLanes cmp l)) (seenOperands os) ≡ Full (VsetLanes cmp l)
 unfolding filledOf
-vset-lanes-complete cmp l os h = rw (lanes-complete cmp l (h .operands) (h .named))
+vset-lanes-complete cmp l os h = rw (lanes-complete l (h .operands) (h .named))
+
+arithmetic-lanes-complete : (op : LaneArith) (dtype : VideoType) (sat : Bool) (l : Lanes) (os : List OperandTree) → OperandsSpell os (ArithmeticLanes op dtype sat l)
+    → filledOf (blank (ArithmeticLanes op dtype sat l)) (seenOperands os) ≡ Full (ArithmeticLanes op dtype sat l)
+unfolding filledOf
+arithmetic-lanes-complete op dtype sat l os h = rw (lanes-complete l (h .operands) (h .named))
 
 pub fill-complete : (i : Instruction) (os : List OperandTree) → OperandsSpell os i → filledOf (blank i) (seenOperands os) ≡ Full i
 fill-complete (VsetLanes cmp l) os h = vset-lanes-complete cmp l os h
+fill-complete (ArithmeticLanes op dtype sat l) os h = arithmetic-lanes-complete op dtype sat l os h
 fill-complete (Arithmetic op dtype sat s) os h = rw (spelled-same (h .operands) refl) (arithmetic-complete op dtype sat s)
 fill-complete (Vset cmp s) os h = rw (spelled-same (h .operands) refl) (vset-complete cmp s)
 fill-complete (Set dtype d s) os h = rw (spelled-same (h .operands) refl) (set-complete dtype d s)

@@ -9,7 +9,7 @@ use Rattle.record.specs.declared.Comparison.{Comparison}
 use Rattle.record.specs.declared.Form.{Form}
 use Rattle.record.specs.declared.Form.the-variants.{Plain, Merge, Combine}
 use Rattle.record.specs.declared.Instruction.{Instruction}
-use Rattle.record.specs.declared.Instruction.the-variants.{Arithmetic, Vset, VsetLanes, Set, Setp, Selp, Slct}
+use Rattle.record.specs.declared.Instruction.the-variants.{Arithmetic, Vset, VsetLanes, ArithmeticLanes, Set, Setp, Selp, Slct}
 use Rattle.record.specs.declared.Scalar.{Scalar}
 use Rattle.record.specs.declared.Selected.the-variants.{Whole}
 use Rattle.record.specs.declared.Destination.the-variants.{One}
@@ -57,6 +57,7 @@ pub blank-twice : (i : Instruction) → blank (blank i) ≡ blank i
 blank-twice (Arithmetic op dtype sat s) = ap (Arithmetic op dtype sat) (scalar-twice s)
 blank-twice (Vset cmp s) = ap (Vset cmp) (scalar-twice s)
 blank-twice (VsetLanes cmp l) = refl
+blank-twice (ArithmeticLanes op dtype sat l) = refl
 blank-twice (Set dtype d s) = ap (Set dtype noWord) (comparison-twice s)
 blank-twice (Setp d s) = ap (Setp (One noPred)) (comparison-twice s)
 blank-twice (Selp s c) = refl

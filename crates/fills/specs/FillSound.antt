@@ -10,7 +10,7 @@ use borrow.Author.Tests.{lt-leb, eq-eqb, eqb-true}
 use Rattle.base.specs.Lists.{tab}
 use Rattle.base.specs.Pack.{codeOf}
 use Rattle.base.specs.PackLaws.{short-name, code-known}
-use Rattle.record.specs.Operands.{maskFits, digitsFit, defaultA, defaultB}
+use Rattle.record.specs.Operands.{maskFits, digitsFit, defaultA, defaultB, lanesFit}
 use Rattle.record.specs.declared.Combination.{Combination}
 use Rattle.record.specs.declared.Combination.the-variants.{Alone, With}
 use Rattle.record.specs.declared.Comparison.{Comparison}
@@ -25,7 +25,8 @@ use Rattle.record.specs.declared.Digits.{Digits}
 use Rattle.record.specs.declared.Form.{Form}
 use Rattle.record.specs.declared.Form.the-variants as form
 use Rattle.record.specs.declared.Instruction.{Instruction}
-use Rattle.record.specs.declared.Instruction.the-variants.{Arithmetic, Vset, VsetLanes, Set, Setp, Selp, Slct}
+use Rattle.record.specs.declared.Instruction.the-variants.{Arithmetic, Vset, VsetLanes, ArithmeticLanes, Set, Setp, Selp, Slct}
+use Rattle.record.specs.declared.LaneArith.{LaneArith}
 use Rattle.record.specs.declared.LaneWidth.{LaneWidth}
 use Rattle.record.specs.declared.LaneWidth.the-variants.{Half, Byte}
 use Rattle.record.specs.declared.Lanes.{Lanes}
@@ -40,17 +41,17 @@ use Rattle.rules.specs.Shape.{at, nothing, OperandTree, inverted, pair, bare, p
 use Rattle.rules.specs.Names.{selectorName, maskName, digitsName}
 use Rattle.rules.specs.Grammar as grammar
 use Rattle.rules.specs.Grammar.{GoodOperand, GoodOperands}
-use Rattle.rules.specs.StandardLine.{r, p, sameDigits, selectedTree, formTree, formLast, maskTree, digitsTree, conditionTree, combinationLast, destinationTree, operandTrees}
-use Rattle.rules.specs.Reading.{OneOf, as-standard, as-written, Spelled, none, more, writtenTrees, OperandsSpell}
+use Rattle.rules.specs.StandardLine.{r, p, sameDigits, selectedTree, formTree, formLast, maskTree, digitsTree, conditionTree, combinationLast, destinationTree, lanesTrees}
+use Rattle.rules.specs.Reading.{OneOf, as-standard, as-written, Spelled, none, more, writtenLanes, OperandsSpell}
 use Rattle.tree.specs.Seen.{seenOperand, seenOperands, slot, spare, operandsKept}
-use Rattle.tree.specs.Blank.{noWord, noPred, noOperand, blank, blankForm, blankScalar, blankCombination, blankComparison, blankChoice}
+use Rattle.tree.specs.Blank.{noWord, noPred, noOperand, blank, blankForm, blankScalar, blankLanes, blankCombination, blankComparison, blankChoice}
 use Rattle.tree.specs.declared.Operands.{Operands}
 use Rattle.tree.specs.declared.Slot.{Slot}
 use Rattle.tree.specs.declared.Tree.{Tree}
 use Rattle.kinds.specs.Registers.{bareWord, barePred, bareOperand, conditionOf, destinationOf}
 use Rattle.names.specs.Back.{selectorOf}
 use Rattle.masks.specs.Masks.{maskOf, digitsOf}
-use Rattle.fills.specs.Fills.{untaken, treeAt, lastBy, partBy, selectedOf, startOf, mergeForm, combineForm, formOf, scalarEnd, scalarBy, scalarOf, maskedBy, maskedOf, lanedBy, lanedOf, lanesWith, lanesBy, lanesOf, combinationOf, comparisonBy, comparisonOf, choiceBy, choiceOf, arithmeticFrom, vsetFrom, lanesFrom, setFrom, setpFrom, predLast, selpFrom, slctFrom, filledOf}
+use Rattle.fills.specs.Fills.{untaken, treeAt, lastBy, partBy, selectedOf, startOf, mergeForm, combineForm, formOf, scalarEnd, scalarBy, scalarOf, maskedBy, maskedOf, lanedBy, lanedOf, lanesWith, lanesBy, lanesOf, combinationOf, comparisonBy, comparisonOf, choiceBy, choiceOf, arithmeticFrom, vsetFrom, vsetLanesFrom, arithmeticLanesFrom, setFrom, setpFrom, predLast, selpFrom, slctFrom, filledOf}
 use Rattle.names.specs.Back.{selector-sound}
 use Rattle.masks.specs.MaskLaws.{MaskIs, mask-sound, mask-known, DigitsIs, digits-sound, digits-known}
 use Rattle.kinds.specs.declared.WordFound
@@ -87,6 +88,8 @@ use Rattle.fills.specs.declared.MaskedFound
 use Rattle.fills.specs.declared.MaskedFound.{MaskedFound}
 use Rattle.fills.specs.declared.LanedFound
 use Rattle.fills.specs.declared.LanedFound.{LanedFound}
+use Rattle.fills.specs.declared.LanesFound
+use Rattle.fills.specs.declared.LanesFound.{LanesFound}
 use Rattle.fills.specs.declared.CombinationFound
 use Rattle.fills.specs.declared.CombinationFound.{CombinationFound}
 use Rattle.fills.specs.declared.ComparisonFound
@@ -190,7 +193,7 @@ selected-is (part (word n) w) g = go (selectorOf (codeOf w)) refl
 selected-is (part (double n) w) g = tt
 selected-is (part (pred n) w) g = tt
 
--- d of vset2 and vset4: bare or with its mask written
+-- d of the forms with 2 and 4: bare or with its mask written
 abbrev MaskedIs : LaneWidth → OperandTree → MaskedFound → Type 0
 MaskedIs w o (MaskedFound.Is m) = OneOf o (maskTree w (m .word) (m .mask)) (part (r (m .word)) (maskName w (m .mask))) × (maskFits w (m .mask) ≡ true)
 MaskedIs w o MaskedFound.Not = Unit {0}
@@ -210,7 +213,7 @@ masked-is w (part (word n) k) g = go (maskOf w (codeOf k)) (mask-sound w (codeOf
 masked-is w (part (double n) k) g = tt
 masked-is w (part (pred n) k) g = tt
 
--- a and b of vset2 and vset4: bare or with the selector written
+-- a and b of the forms with 2 and 4: bare or with the selector written
 abbrev LanedIs : LaneWidth → Digits → OperandTree → LanedFound → Type 0
 LanedIs w default o (LanedFound.Is l) =
     OneOf o (digitsTree w default (l .word) (l .digits)) (part (r (l .word)) (digitsName w (l .digits))) × (digitsFit w (l .digits) ≡ true)
@@ -365,6 +368,28 @@ scalar-by os s (StartFound.Is d) (SelectedFound.Is a) (SelectedFound.Is b) c e g
     )
     go (FormFound.Wrong n) l = tt
 
+record LanesSpelled (os : List OperandTree) (l m : Lanes) : Type 0 where
+  spelled : Spelled os (lanesTrees m) (writtenLanes m)
+  named : lanesFit m ≡ true
+  head : blankLanes m ≡ blankLanes l
+
+abbrev LanesIs : List OperandTree → Lanes → LanesFound → Type 0
+LanesIs os l (LanesFound.Is m) = LanesSpelled os l m
+LanesIs os l (LanesFound.Wrong k) = Unit {0}
+
+lanes-by : (os : List OperandTree) (l : Lanes) (d : MaskedFound) (a b : LanedFound) (c : LastFound)
+    → MaskedIs (l .width) (nth os 0) d → LanedIs (l .width) (defaultA (l .width)) (nth os 1) a → LanedIs (l .width) (defaultB (l .width)) (nth os 2) b → LastIs os c
+    → LanesIs os l (lanesBy l d a b c)
+lanes-by os l MaskedFound.Not a b c e g h k = tt
+lanes-by os l (MaskedFound.Is d) LanedFound.Not b c e g h k = tt
+lanes-by os l (MaskedFound.Is d) (LanedFound.Is a) LanedFound.Not c e g h k = tt
+lanes-by os l (MaskedFound.Is d) (LanedFound.Is a) (LanedFound.Is b) (LastFound.Wrong n) e g h k = tt
+lanes-by os l (MaskedFound.Is d) (LanedFound.Is a) (LanedFound.Is b) (LastFound.Is c) e g h k =
+    let m : Lanes = lanesWith l d a b c in
+    let s : Spelled (nth os 0 ∷ nth os 1 ∷ nth os 2 ∷ bare (r c) ∷ []) (lanesTrees m) (writtenLanes m) =
+    more (e .0) (more (g .0) (more (h .0) (more (as-standard refl) none))) in
+    record { spelled = subst (λ (x : List OperandTree). Spelled x (lanesTrees m) (writtenLanes m)) (sym k) s; named = rw (e .1, g .1, h .1); head = refl }
+
 abbrev CombinationIs : List OperandTree → Combination → CombinationFound → Type 0
 CombinationIs os k (CombinationFound.Is j) = (blankCombination j ≡ blankCombination k) × (os ≡ nth os 0 ∷ nth os 1 ∷ nth os 2 ∷ combinationLast j)
 CombinationIs os k (CombinationFound.Wrong n) = Unit {0}
@@ -431,18 +456,14 @@ vset-by : (os : List OperandTree) (cmp : Cmp6) (s : Scalar) (f : ScalarFound) �
 vset-by os cmp s (ScalarFound.Is x) e = (record { operands = standing (e .1); named = refl }, ap (Vset cmp) (e .0))
 vset-by os cmp s (ScalarFound.Wrong k) e = tt
 
-lanes-by : (cmp : Cmp6) (os : List OperandTree) (l : Lanes) (d : MaskedFound) (a b : LanedFound) (c : LastFound)
-    → MaskedIs (l .width) (nth os 0) d → LanedIs (l .width) (defaultA (l .width)) (nth os 1) a → LanedIs (l .width) (defaultB (l .width)) (nth os 2) b → LastIs os c
-    → FilledIs os (VsetLanes cmp l) (lanesFrom cmp (lanesBy l d a b c))
-lanes-by cmp os l MaskedFound.Not a b c e g h k = tt
-lanes-by cmp os l (MaskedFound.Is d) LanedFound.Not b c e g h k = tt
-lanes-by cmp os l (MaskedFound.Is d) (LanedFound.Is a) LanedFound.Not c e g h k = tt
-lanes-by cmp os l (MaskedFound.Is d) (LanedFound.Is a) (LanedFound.Is b) (LastFound.Wrong n) e g h k = tt
-lanes-by cmp os l (MaskedFound.Is d) (LanedFound.Is a) (LanedFound.Is b) (LastFound.Is c) e g h k =
-    let m : Lanes = lanesWith l d a b c in
-    let s : Spelled (nth os 0 ∷ nth os 1 ∷ nth os 2 ∷ bare (r c) ∷ []) (operandTrees (VsetLanes cmp m)) (writtenTrees (VsetLanes cmp m)) =
-    more (e .0) (more (g .0) (more (h .0) (more (as-standard refl) none))) in
-    (record { operands = subst (λ (x : List OperandTree). Spelled x (operandTrees (VsetLanes cmp m)) (writtenTrees (VsetLanes cmp m))) (sym k) s; named = rw (e .1, g .1, h .1) }, refl)
+vset-lanes-by : (os : List OperandTree) (cmp : Cmp6) (l : Lanes) (f : LanesFound) → LanesIs os l f → FilledIs os (VsetLanes cmp l) (vsetLanesFrom cmp f)
+vset-lanes-by os cmp l (LanesFound.Is x) e = (record { operands = e .spelled; named = e .named }, ap (VsetLanes cmp) (e .head))
+vset-lanes-by os cmp l (LanesFound.Wrong k) e = tt
+
+arithmetic-lanes-by : (os : List OperandTree) (op : LaneArith) (t : VideoType) (sat : Bool) (l : Lanes) (f : LanesFound)
+    → LanesIs os l f → FilledIs os (ArithmeticLanes op t sat l) (arithmeticLanesFrom op t sat f)
+arithmetic-lanes-by os op t sat l (LanesFound.Is x) e = (record { operands = e .spelled; named = e .named }, ap (ArithmeticLanes op t sat) (e .head))
+arithmetic-lanes-by os op t sat l (LanesFound.Wrong k) e = tt
 
 set-by : (os : List OperandTree) (t : SetType) (x : Word) (s : Comparison) (d : WordFound) (f : ComparisonFound)
     → WordIs (nth os 0) d → ComparisonIs os s f → FilledIs os (Set t x s) (setFrom t d f)
@@ -535,11 +556,11 @@ module _ (os : List OperandTree) (good : GoodOperands os) where
       → LanedIs w default (nth os k) (lanedOf w default (treeAt seen k))
   laned-at w default f k h = at-place (λ (o : OperandTree) (t : Tree). LanedIs w default o (lanedOf w default t)) (laned-is w default f) good k h
 
-  lanes-at : (cmp : Cmp6) (l : Lanes) → FilledIs os (VsetLanes cmp l) (lanesFrom cmp (lanesOf l seen))
+  lanes-at : (l : Lanes) → LanesIs os l (lanesOf l seen)
   unfolding lanesOf
-  lanes-at cmp l =
+  lanes-at l =
       let w = l .width in
-      lanes-by cmp os l (maskedOf w (treeAt seen 0)) (lanedOf w (defaultA w) (treeAt seen 1)) (lanedOf w (defaultB w) (treeAt seen 2)) (lastBy (seen .n) (bareWord (treeAt seen 3)))
+      lanes-by os l (maskedOf w (treeAt seen 0)) (lanedOf w (defaultA w) (treeAt seen 1)) (lanedOf w (defaultB w) (treeAt seen 2)) (lastBy (seen .n) (bareWord (treeAt seen 3)))
       (masked-at w)
       (laned-at w (defaultA w) (a-fits w) 1 (omega arith))
       (laned-at w (defaultB w) (b-fits w) 2 (omega arith))
@@ -559,7 +580,8 @@ module _ (os : List OperandTree) (good : GoodOperands os) where
   unfolding filledOf seenOperands
   filled-is (Arithmetic op t sat s) = arithmetic-by os op t sat s (scalarOf s seen) (scalar-at s)
   filled-is (Vset cmp s) = vset-by os cmp s (scalarOf s seen) (scalar-at s)
-  filled-is (VsetLanes cmp l) = lanes-at cmp l
+  filled-is (VsetLanes cmp l) = vset-lanes-by os cmp l (lanesOf l seen) (lanes-at l)
+  filled-is (ArithmeticLanes op t sat l) = arithmetic-lanes-by os op t sat l (lanesOf l seen) (lanes-at l)
   filled-is (Set t x s) = set-by os t x s (bareWord (treeAt seen 0)) (comparisonOf s seen) (word-at 0 (omega arith)) (comparison-at s)
   filled-is (Setp x s) = setp-by os x s (destinationOf (treeAt seen 0)) (comparisonOf s seen) destination-at (comparison-at s)
   filled-is (Selp s x) = selp-by os s x (choiceOf s seen) (predLast (seen .n) (barePred (treeAt seen 3))) (choice-at s) pred-last-at

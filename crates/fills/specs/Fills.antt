@@ -16,7 +16,8 @@ use Rattle.record.specs.declared.Digits.{Digits}
 use Rattle.record.specs.declared.Form.{Form}
 use Rattle.record.specs.declared.Form.the-variants as form
 use Rattle.record.specs.declared.Instruction.{Instruction}
-use Rattle.record.specs.declared.Instruction.the-variants.{Arithmetic, Vset, VsetLanes, Set, Setp, Selp, Slct}
+use Rattle.record.specs.declared.Instruction.the-variants.{Arithmetic, Vset, VsetLanes, ArithmeticLanes, Set, Setp, Selp, Slct}
+use Rattle.record.specs.declared.LaneArith.{LaneArith}
 use Rattle.record.specs.declared.LaneWidth.{LaneWidth}
 use Rattle.record.specs.declared.Lanes.{Lanes}
 use Rattle.record.specs.declared.Op2.{Op2}
@@ -92,7 +93,7 @@ untaken = record { tree = tree.Inverted (place.Word (record { 0 = 0 })) }
 unfoldable pub treeAt : Operands → ℕ → Tree
 treeAt o k = cond (leb operandsKept k) (spare .tree) (getD (o .at) k untaken .tree)
 
--- ==== c as the last operand of scalar video, vset2, vset4 and slct
+-- ==== c as the last operand of scalar video, the forms with 2 and 4, and slct
 
 abbrev pub lastBy : ℕ → WordFound → LastFound
 lastBy n (WordFound.Is w) = cond (eqb n 4) (LastFound.Is w) (LastFound.Wrong 4)
@@ -163,7 +164,7 @@ scalarOf s o =
     (selectedOf (treeAt o 2))
     (bareWord (treeAt o 3))
 
--- ==== vset2, vset4
+-- ==== the forms with 2 and 4
 
 abbrev pub maskedBy : WordFound → MaskFound → MaskedFound
 maskedBy (WordFound.Is w) (MaskFound.Is m) = MaskedFound.Is (record { word = w; mask = m })
@@ -273,9 +274,13 @@ abbrev pub vsetFrom : Cmp6 → ScalarFound → Filled
 vsetFrom cmp (ScalarFound.Is s) = Full (Vset cmp s)
 vsetFrom cmp (ScalarFound.Wrong k) = Wrong k
 
-abbrev pub lanesFrom : Cmp6 → LanesFound → Filled
-lanesFrom cmp (LanesFound.Is l) = Full (VsetLanes cmp l)
-lanesFrom cmp (LanesFound.Wrong k) = Wrong k
+abbrev pub vsetLanesFrom : Cmp6 → LanesFound → Filled
+vsetLanesFrom cmp (LanesFound.Is l) = Full (VsetLanes cmp l)
+vsetLanesFrom cmp (LanesFound.Wrong k) = Wrong k
+
+abbrev pub arithmeticLanesFrom : LaneArith → VideoType → Bool → LanesFound → Filled
+arithmeticLanesFrom op t sat (LanesFound.Is l) = Full (ArithmeticLanes op t sat l)
+arithmeticLanesFrom op t sat (LanesFound.Wrong k) = Wrong k
 
 abbrev pub setFrom : SetType → WordFound → ComparisonFound → Filled
 setFrom t WordFound.Not s = Wrong 0
@@ -300,7 +305,8 @@ slctFrom t (ChoiceFound.Wrong k) c = Wrong k
 unfoldable pub filledOf : Instruction → Operands → Filled
 filledOf (Arithmetic op t sat s) o = arithmeticFrom op t sat (scalarOf s o)
 filledOf (Vset cmp s) o = vsetFrom cmp (scalarOf s o)
-filledOf (VsetLanes cmp l) o = lanesFrom cmp (lanesOf l o)
+filledOf (VsetLanes cmp l) o = vsetLanesFrom cmp (lanesOf l o)
+filledOf (ArithmeticLanes op t sat l) o = arithmeticLanesFrom op t sat (lanesOf l o)
 filledOf (Set t d s) o = setFrom t (bareWord (treeAt o 0)) (comparisonOf s o)
 filledOf (Setp d s) o = setpFrom (destinationOf (treeAt o 0)) (comparisonOf s o)
 filledOf (Selp s c) o = selpFrom (choiceOf s o) (predLast (o .n) (barePred (treeAt o 3)))

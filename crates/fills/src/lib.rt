@@ -17,6 +17,7 @@ use record::DataType;
 use record::Digits;
 use record::Form;
 use record::Instruction;
+use record::LaneArith;
 use record::LaneWidth;
 use record::Lanes;
 use record::Mask;
@@ -35,7 +36,7 @@ use tree::Spot;
 use tree::Tree;
 ghost use mathlib.Core.Path.{_≡_};
 ghost use Rattle.kinds.specs.Registers.{bareWord, barePred, destinationOf};
-ghost use Rattle.fills.specs.Fills.{treeAt, wholeBy, partBy, selectedOf, startPlain, startCombine, startOf, lastBy, plainForm, mergeForm, combineForm, formOf, scalarBy, scalarEnd, scalarOf, maskedBy, maskedOf, lanedBy, lanedOf, lanesWith, lanesBy, lanesOf, aloneBy, withBy, combinationOf, comparisonBy, comparisonEnd, comparisonOf, choiceBy, choiceOf, arithmeticFrom, vsetFrom, lanesFrom, setFrom, setpFrom, predLast, selpFrom, slctFrom, filledOf};
+ghost use Rattle.fills.specs.Fills.{treeAt, wholeBy, partBy, selectedOf, startPlain, startCombine, startOf, lastBy, plainForm, mergeForm, combineForm, formOf, scalarBy, scalarEnd, scalarOf, maskedBy, maskedOf, lanedBy, lanedOf, lanesWith, lanesBy, lanesOf, aloneBy, withBy, combinationOf, comparisonBy, comparisonEnd, comparisonOf, choiceBy, choiceOf, arithmeticFrom, vsetFrom, vsetLanesFrom, arithmeticLanesFrom, setFrom, setpFrom, predLast, selpFrom, slctFrom, filledOf};
 
 // The instruction with the line's operands, or the index of the first operand that is wrong.
 pub enum Filled {
@@ -267,7 +268,7 @@ fn scalar_of(s: Scalar, o: Operands) -> ScalarFound
     scalar_by(s, n, d, a, b, kinds::bare_word(tree_at(o, 3)))
 }
 
-// ---- vset2, vset4
+// ---- the forms with 2 and 4
 
 struct Masked {
     word: Word,
@@ -588,11 +589,25 @@ fn vset_from(cmp: Cmp6, s: ScalarFound) -> Filled
     }
 }
 
-fn lanes_from(cmp: Cmp6, l: LanesFound) -> Filled
-    ensures { λ r. ⌜ r ≡ lanesFrom cmp l ⌝ }
+fn vset_lanes_from(cmp: Cmp6, l: LanesFound) -> Filled
+    ensures { λ r. ⌜ r ≡ vsetLanesFrom cmp l ⌝ }
 {
     match l {
         LanesFound::Is(lanes) => return Filled::Full(Instruction::VsetLanes { cmp, lanes }),
+        LanesFound::Wrong(k) => return Filled::Wrong(k),
+    }
+}
+
+fn arithmetic_lanes_from(op: LaneArith, dtype: VideoType, sat: bool, l: LanesFound) -> Filled
+    ensures { λ r. ⌜ r ≡ arithmeticLanesFrom op dtype sat l ⌝ }
+{
+    match l {
+        LanesFound::Is(lanes) => return Filled::Full(Instruction::ArithmeticLanes {
+            op,
+            dtype,
+            sat,
+            lanes,
+        }),
         LanesFound::Wrong(k) => return Filled::Wrong(k),
     }
 }
@@ -663,7 +678,16 @@ pub fn fill_in(i: Instruction, operands: Operands) -> Filled
             scalar,
         } => return arithmetic_from(op, dtype, sat, scalar_of(scalar, operands)),
         Instruction::Vset { cmp, scalar } => return vset_from(cmp, scalar_of(scalar, operands)),
-        Instruction::VsetLanes { cmp, lanes } => return lanes_from(cmp, lanes_of(lanes, operands)),
+        Instruction::VsetLanes { cmp, lanes } => return vset_lanes_from(
+            cmp,
+            lanes_of(lanes, operands),
+        ),
+        Instruction::ArithmeticLanes {
+            op,
+            dtype,
+            sat,
+            lanes,
+        } => return arithmetic_lanes_from(op, dtype, sat, lanes_of(lanes, operands)),
         Instruction::Set {
             dtype,
             comparison,

@@ -4,7 +4,7 @@ use native.Mathlib.Omega.{arith}
 use mathlib.Core.Path.{_≡_, refl, sym, ap, subst, _∙_}
 use mathlib.Core.Bool.{Bool, true, false, not, _&&_, and-eq-true-iff}
 use mathlib.Core.List.{List, [], _∷_, map}
-use lib.ListN.{length}
+use lib.ListN.{length, drop}
 use lib.Dec.{ltb}
 use borrow.Author.Tests.{lt-ltb, le-ltb, ltb-true, ltb-false}
 use Rattle.record.specs.Modifiers.{instructionModifiersFit, modifiersFit}
@@ -13,6 +13,8 @@ use Rattle.record.specs.Refusals.{numbersInRange, pairApart, isLegal, Legal}
 use Rattle.record.specs.declared.Guard.{Guard}
 use Rattle.record.specs.declared.Guard.the-variants.{Always, When}
 use Rattle.record.specs.declared.Arith.the-variants.{Vadd, Vsub, Vabsdiff, Vmin, Vmax}
+use Rattle.record.specs.declared.LaneArith.{LaneArith}
+use Rattle.record.specs.declared.LaneArith.the-variants.{Scalar, Vavrg}
 use Rattle.record.specs.declared.LaneWidth.{LaneWidth}
 use Rattle.record.specs.declared.LaneWidth.the-variants.{Half, Byte}
 use Rattle.record.specs.declared.Form.{Form}
@@ -22,11 +24,11 @@ use Rattle.record.specs.declared.Combination.the-variants.{Alone, With}
 use Rattle.record.specs.declared.SlctType
 use Rattle.record.specs.declared.SlctType.{SlctType}
 use Rattle.record.specs.declared.Instruction.{Instruction}
-use Rattle.record.specs.declared.Instruction.the-variants.{Arithmetic, Vset, VsetLanes, Set, Setp, Selp, Slct}
+use Rattle.record.specs.declared.Instruction.the-variants.{Arithmetic, Vset, VsetLanes, ArithmeticLanes, Set, Setp, Selp, Slct}
 use Rattle.record.specs.declared.Record.{Record}
 use Rattle.rules.specs.Executing.{word, double, pred}
 use Rattle.rules.specs.Shape.{Name}
-use Rattle.rules.specs.Names.{lanesName, formOp2, combinationNames, headNames}
+use Rattle.rules.specs.Names.{lanesName, laneArithName, formOp2, combinationNames, headNames}
 use Rattle.rules.specs.Grammar.GoodNames.{more as name-more}
 use Rattle.rules.specs.Grammar.GoodOthers.{none as no-other, more as other-more}
 use Rattle.rules.specs.Grammar.GoodOperands.{none as no-operand, more as operand-more}
@@ -71,6 +73,7 @@ blank-names : (i : Instruction) → headNames (blank i) ≡ headNames i
 blank-names (Arithmetic op dtype sat s) = rw (form-op2 (s .form))
 blank-names (Vset cmp s) = rw (form-op2 (s .form))
 blank-names (VsetLanes cmp l) = refl
+blank-names (ArithmeticLanes op dtype sat l) = refl
 blank-names (Set dtype d s) = rw (combination-names (s .combination))
 blank-names (Setp d s) = rw (combination-names (s .combination))
 blank-names (Selp s c) = refl
@@ -104,23 +107,44 @@ abbrev firstOf : List Name → Name
 firstOf [] = []
 firstOf (n ∷ ns) = n
 
+-- past the first k
+past : (k : ℕ) {n : Name} (ns : List Name) → Listed n (drop k ns) → Listed n ns
+past zero ns h = h
+past (suc k) [] h = h
+past (suc k) (m ∷ ns) h = later (past k ns h)
+
+lanes-listed : (w : LaneWidth) → Listed (lanesName w) opcodes
+lanes-listed Half = past 6 opcodes (here refl)
+lanes-listed Byte = past 7 opcodes (here refl)
+
+lane-arith-listed : (op : LaneArith) (w : LaneWidth) → Listed (laneArithName op w) opcodes
+lane-arith-listed (Scalar Vadd) Half = past 8 opcodes (here refl)
+lane-arith-listed (Scalar Vsub) Half = past 9 opcodes (here refl)
+lane-arith-listed Vavrg Half = past 10 opcodes (here refl)
+lane-arith-listed (Scalar Vabsdiff) Half = past 11 opcodes (here refl)
+lane-arith-listed (Scalar Vmin) Half = past 12 opcodes (here refl)
+lane-arith-listed (Scalar Vmax) Half = past 13 opcodes (here refl)
+lane-arith-listed (Scalar Vadd) Byte = past 14 opcodes (here refl)
+lane-arith-listed (Scalar Vsub) Byte = past 15 opcodes (here refl)
+lane-arith-listed Vavrg Byte = past 16 opcodes (here refl)
+lane-arith-listed (Scalar Vabsdiff) Byte = past 17 opcodes (here refl)
+lane-arith-listed (Scalar Vmin) Byte = past 18 opcodes (here refl)
+lane-arith-listed (Scalar Vmax) Byte = past 19 opcodes (here refl)
+
 first-listed : (i : Instruction) → Listed (firstOf (headNames i)) opcodes
-first-listed (Arithmetic Vadd dtype sat s) = here refl
-first-listed (Arithmetic Vsub dtype sat s) = later (here refl)
-first-listed (Arithmetic Vabsdiff dtype sat s) = later (later (here refl))
-first-listed (Arithmetic Vmin dtype sat s) = later (later (later (here refl)))
-first-listed (Arithmetic Vmax dtype sat s) = later (later (later (later (here refl))))
-first-listed (Vset cmp s) = later (later (later (later (later (here refl)))))
-first-listed (VsetLanes cmp l) = lanes (l .width)
-  where
-    lanes : (w : LaneWidth) → Listed (lanesName w) opcodes
-    lanes Half = later (later (later (later (later (later (here refl))))))
-    lanes Byte = later (later (later (later (later (later (later (here refl)))))))
-first-listed (Set dtype d s) = later (later (later (later (later (later (later (later (here refl))))))))
-first-listed (Setp d s) = later (later (later (later (later (later (later (later (later (here refl)))))))))
-first-listed (Selp s c) = later (later (later (later (later (later (later (later (later (later (here refl))))))))))
-first-listed (Slct SlctType.S32 s c) = later (later (later (later (later (later (later (later (later (later (later (here refl)))))))))))
-first-listed (Slct (SlctType.F32 ftz) s c) = later (later (later (later (later (later (later (later (later (later (later (here refl)))))))))))
+first-listed (Arithmetic Vadd dtype sat s) = past 0 opcodes (here refl)
+first-listed (Arithmetic Vsub dtype sat s) = past 1 opcodes (here refl)
+first-listed (Arithmetic Vabsdiff dtype sat s) = past 2 opcodes (here refl)
+first-listed (Arithmetic Vmin dtype sat s) = past 3 opcodes (here refl)
+first-listed (Arithmetic Vmax dtype sat s) = past 4 opcodes (here refl)
+first-listed (Vset cmp s) = past 5 opcodes (here refl)
+first-listed (VsetLanes cmp l) = lanes-listed (l .width)
+first-listed (ArithmeticLanes op dtype sat l) = lane-arith-listed op (l .width)
+first-listed (Set dtype d s) = past 20 opcodes (here refl)
+first-listed (Setp d s) = past 21 opcodes (here refl)
+first-listed (Selp s c) = past 22 opcodes (here refl)
+first-listed (Slct SlctType.S32 s c) = past 23 opcodes (here refl)
+first-listed (Slct (SlctType.F32 ftz) s c) = past 23 opcodes (here refl)
 
 row-listed : (i : Instruction) (n : Name) (ns : List Name) → n ∷ ns ≡ headNames i → Listed n opcodes
 row-listed i n ns e = subst (λ (m : Name). Listed m opcodes) (sym (ap firstOf e)) (first-listed i)

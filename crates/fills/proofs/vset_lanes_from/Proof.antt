@@ -1,6 +1,6 @@
 use borrow.Author.Needs.{needs}
-use Rattle.fills.proofs.lanes_from.Statement.{statement}
-use Rattle.fills.proofs.lanes_from.Tie as tie
+use Rattle.fills.proofs.vset_lanes_from.Statement.{statement}
+use Rattle.fills.proofs.vset_lanes_from.Tie as tie
 
 enum-known-l : tie.Need-enum-known-l
 enum-known-l c = search needs
@@ -18,5 +18,5 @@ returns-2 c =
     simp
     (c .before .l2 .given .1)
 
-pub lanes-from-spec : {M : Type 1} → statement M
-lanes-from-spec = tie.close (tie.spec enum-known-l returns enum-known-l-2 returns-2)
+pub vset-lanes-from-spec : {M : Type 1} → statement M
+vset-lanes-from-spec = tie.close (tie.spec enum-known-l returns enum-known-l-2 returns-2)
