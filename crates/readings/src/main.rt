@@ -11,6 +11,11 @@ ghost use lib.ListN.{length};
 // More than the corpus has.
 const INPUT: usize = 131072;
 
+// Room for a standard line, which has at most 77 bytes, and with `ok ` before it.
+const LINE: usize = 80;
+
+const ANSWER: usize = 83;
+
 fn say(s: &[u8]) {
     io::write_all(STDOUT_FILENO, s);
 }
@@ -65,7 +70,7 @@ fn decode(s: &[u8], out: &mut [u8]) -> usize {
 
 // `ok ` and the standard line.
 fn put_record(r: Record, out: &mut [u8]) -> usize {
-    let mut line = [0u8; 72];
+    let mut line = [0u8; LINE];
     match write::write(r, &mut line) {
         Written::Length(n) => {
             let at = text::put(out, 0, b"ok ");
@@ -130,7 +135,7 @@ fn judge(wanted: &[u8], got: &[u8], entry: &[u8]) {
 
 fn try_entry(entry: &[u8]) {
     let mut line = [0u8; 512];
-    let mut answer = [0u8; 80];
+    let mut answer = [0u8; ANSWER];
     let tab = next(entry, 0, b'\t');
     if tab < entry.len() {
         let n = decode(&entry[tab + 1..], &mut line);

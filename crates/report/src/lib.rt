@@ -20,7 +20,7 @@ ghost use Rattle.report.specs.Chunks.{lineLength, behind, lineRoom, Puts
 const LISTING_LIMIT: usize = 65536;
 
 // As many bytes as the text of a line has at most.
-const LINE_ROOM: usize = 98;
+const LINE_ROOM: usize = 107;
 
 const LINE_FEED: u8 = 10;
 

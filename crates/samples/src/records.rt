@@ -19,6 +19,7 @@ use record::Double;
 use record::Form;
 use record::Guard;
 use record::Instruction;
+use record::LaneArith;
 use record::LaneWidth;
 use record::Lanes;
 use record::Mask;
@@ -36,12 +37,14 @@ use record::Word;
 
 // ---- the numbers of a line
 
-// The first three numbers, of which count are read, and the last eighteen: t1 is the last. What kinds share stands at the end of a line.
+// The first three numbers, of which count are read, and the last twenty: t1 is the last. What kinds share stands at the end of a line.
 pub(crate) struct Fields {
     count: u8,
     guard: u16,
     gp: u16,
     kind: u16,
+    t20: u16,
+    t19: u16,
     t18: u16,
     t17: u16,
     t16: u16,
@@ -68,6 +71,8 @@ pub(crate) fn no_fields() -> Fields {
         guard: 0,
         gp: 0,
         kind: 0,
+        t20: 0,
+        t19: 0,
         t18: 0,
         t17: 0,
         t16: 0,
@@ -95,6 +100,8 @@ fn with_last(f: Fields, x: u16) -> Fields {
         guard: f.guard,
         gp: f.gp,
         kind: f.kind,
+        t20: f.t19,
+        t19: f.t18,
         t18: f.t17,
         t17: f.t16,
         t16: f.t15,
@@ -254,7 +261,7 @@ fn arith(n: u16) -> Arith {
     }
 }
 
-// ---- vset2 vset4
+// ---- the forms with 2 and 4
 
 fn lane_width(n: u16) -> LaneWidth {
     match n {
@@ -283,7 +290,7 @@ fn digits(a: u16, b: u16, c: u16, d: u16) -> Digits {
 
 fn lanes(f: Fields) -> Lanes {
     Lanes {
-        width: lane_width(f.t18),
+        width: lane_width(f.t17),
         atype: video_type(f.t16),
         btype: video_type(f.t15),
         add: f.t14 == 1,
@@ -294,6 +301,17 @@ fn lanes(f: Fields) -> Lanes {
         b: Word(f.t6),
         bsel: digits(f.t5, f.t4, f.t3, f.t2),
         c: Word(f.t1),
+    }
+}
+
+fn lane_arith(n: u16) -> LaneArith {
+    match n {
+        0 => LaneArith::Scalar(Arith::Vadd),
+        1 => LaneArith::Scalar(Arith::Vsub),
+        2 => LaneArith::Vavrg,
+        3 => LaneArith::Scalar(Arith::Vabsdiff),
+        4 => LaneArith::Scalar(Arith::Vmin),
+        _ => LaneArith::Scalar(Arith::Vmax),
     }
 }
 
@@ -396,7 +414,7 @@ fn instruction(kind: u16, f: Fields) -> Instruction {
         }
         2 => {
             return Instruction::VsetLanes {
-                cmp: cmp6(f.t17),
+                cmp: cmp6(f.t18),
                 lanes: lanes(f),
             };
         }
@@ -419,11 +437,19 @@ fn instruction(kind: u16, f: Fields) -> Instruction {
                 c: Pred(f.t1),
             };
         }
-        _ => {
+        6 => {
             return Instruction::Slct {
                 ctype: slct_type(f.t9),
                 choice: choice(f),
                 c: Word(f.t1),
+            };
+        }
+        _ => {
+            return Instruction::ArithmeticLanes {
+                op: lane_arith(f.t20),
+                dtype: video_type(f.t19),
+                sat: f.t18 == 1,
+                lanes: lanes(f),
             };
         }
     }

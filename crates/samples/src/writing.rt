@@ -10,23 +10,25 @@ ghost use Prim.Native.Nat.{_<_};
 // What the buffers and the bytes around them hold before.
 const PATTERN: u8 = b'#';
 
-// The longest buffer, the bytes on either side of it, and all of these.
-const BUFFER: usize = 72;
+// The longest buffer, how many lengths there are up to it, the bytes on either side of it, and all of these.
+const BUFFER: usize = 80;
+
+const LENGTHS: usize = 81;
 
 const MARGIN: usize = 16;
 
-const AREA: usize = 104;
+const AREA: usize = 112;
 
 // Legality, what writing answers, and what the area of the buffer holds then.
 struct Attempt {
     legal: bool,
     answer: Written,
-    area: [u8; 104],
+    area: [u8; AREA],
 }
 
 fn attempted(record: Fields, size: usize) -> Attempt {
     let mut area = [PATTERN; AREA];
-    let end = MARGIN + size % 73;
+    let end = MARGIN + size % LENGTHS;
     let r = record_of(record);
     let legal = legal::legal(r);
     let answer = write::write(r, &mut area[MARGIN..end]);
@@ -54,8 +56,8 @@ fn print_written(w: Written) -> usize {
 }
 
 // Looks whether of the area the first n bytes of the buffer are as in the line, and all others as before.
-fn mark(area: [u8; 104], line: [u8; 104], n: usize) {
-    let end = MARGIN + n % 73;
+fn mark(area: [u8; AREA], line: [u8; AREA], n: usize) {
+    let end = MARGIN + n % LENGTHS;
     for k in 0..AREA {
         let inside = (MARGIN <= k) & (k < end);
         if (area[k] != line[k]) & inside | (area[k] != PATTERN) & !inside {
@@ -66,7 +68,7 @@ fn mark(area: [u8; 104], line: [u8; 104], n: usize) {
 }
 
 // Line: the area after writing into the longest buffer.
-fn answer_size(record: Fields, size: usize, line: [u8; 104]) -> usize {
+fn answer_size(record: Fields, size: usize, line: [u8; AREA]) -> usize {
     let a = attempted(record, size);
     let answer = a.answer;
     let n = print_written(answer);
@@ -75,14 +77,14 @@ fn answer_size(record: Fields, size: usize, line: [u8; 104]) -> usize {
     n
 }
 
-fn answer_sizes(record: Fields, n: usize, line: [u8; 104])
+fn answer_sizes(record: Fields, n: usize, line: [u8; AREA])
     requires { ⌜ 0 < n ⌝ }
 {
     answer_size(record, n, line);
     answer_size(record, n - 1, line);
     answer_size(record, 0, line);
     say_byte(b' ');
-    let end = MARGIN + n % 73;
+    let end = MARGIN + n % LENGTHS;
     say(&line[MARGIN..end]);
 }
 

@@ -8,11 +8,13 @@ use Rattle.base.specs.Text.{bytes}
 use Rattle.base.specs.Pack.{radix, unpacked, spelled, Spells}
 use Rattle.base.specs.PackLaws.{unpacked-none, text-of, text-more, spells-more, written}
 use Rattle.record.specs.declared.Choice.{Choice}
+use Rattle.record.specs.declared.Cmp6.{Cmp6}
 use Rattle.record.specs.declared.Condition.{Condition}
 use Rattle.record.specs.declared.Guard.the-variants.{When}
+use Rattle.record.specs.declared.VideoType.{VideoType}
 use Rattle.rules.specs.Executing.{operandPlace}
 use Rattle.rules.specs.Shape.{Name, dotted, headText, registerText, spotText, OperandTree, inverted, pair, bare, part, operandText, guardText}
-use Rattle.rules.specs.Names.{when}
+use Rattle.rules.specs.Names.{videoTypeName, sixName, when}
 use Rattle.rules.specs.StandardLine.{p, conditionTree, guardPart, further}
 use Rattle.write.specs.declared.Piece.{Piece}
 
@@ -84,6 +86,16 @@ if-name {k} {x} {y} {w} {t} e s = go t (e .number)
     go : (t : Bool) → y ≡ cond t (withDot x) 0 → Optional y (when t w)
     go true e = one-name e s
     go false e = rw e no-name
+
+-- T(d) T(a) T(b) {sat} behind the opcode x, and a last name that may be left out
+pub record ThreeTypes (x : ℕ) (dtype atype btype : VideoType) (sat : Bool) (last : ℕ) (m : List ℕ) : Type 0 where
+  pub head : {k : ℕ} {w : Name} {ms : List Name} → Spells k x w → Optional last ms
+      → spelled m ≡ headText (w ∷ videoTypeName dtype ∷ videoTypeName atype ∷ videoTypeName btype ∷ (when sat (bytes "sat") ++ ms))
+
+-- T T CMP6 behind the opcode x, and a last name that may be left out
+pub record TwoTypes (x : ℕ) (atype btype : VideoType) (cmp : Cmp6) (last : ℕ) (m : List ℕ) : Type 0 where
+  pub head : {k : ℕ} {w : Name} {ms : List Name} → Spells k x w → Optional last ms
+      → spelled m ≡ headText (w ∷ videoTypeName atype ∷ videoTypeName btype ∷ sixName cmp ∷ ms)
 
 -- ==== operands
 

@@ -12,6 +12,7 @@ use record::Double;
 use record::Form;
 use record::Guard;
 use record::Instruction;
+use record::LaneArith;
 use record::LaneWidth;
 use record::Lanes;
 use record::Mask;
@@ -31,14 +32,14 @@ ghost use Prim.Native.Nat.{_+_, _*_, _^_, _≤_, _<_};
 ghost use lib.ListN.{length};
 ghost use Rattle.base.specs.Pack.{radix, spelled, Spells};
 ghost use Rattle.rules.specs.Executing.{operandPlace, double};
-ghost use Rattle.record.specs.declared.Instruction.the-variants.{Arithmetic, Vset, VsetLanes, Set, Setp, Selp, Slct};
+ghost use Rattle.record.specs.declared.Instruction.the-variants.{Arithmetic, Vset, VsetLanes, ArithmeticLanes, Set, Setp, Selp, Slct};
 ghost use Rattle.rules.specs.Shape.{bare, part, numberText, registerText, headText, operandText};
 ghost use Rattle.rules.specs.Names.{formOp2, combinationNames, headNames, selectorName};
 ghost use Rattle.rules.specs.StandardLine.{r, p, selectedTree, formTree, formLast, sameMask, sameDigits, maskTree, digitsTree, conditionTree, combinationLast, destinationTree, scalarTrees, lanesTrees, sourceTrees, guardPart, further, operandsText, standard};
 ghost use Rattle.rules.specs.LineLengths.{longestLine};
 ghost use Rattle.rules.specs.Writing.{outcome, writing};
 ghost use Rattle.text.specs.Buffer.{buffer, Puts};
-ghost use Rattle.write.specs.Pieces.{withDot, DotIf, Optional, furtherOf, Shows, textOf, eight, choiceText};
+ghost use Rattle.write.specs.Pieces.{withDot, DotIf, Optional, ThreeTypes, TwoTypes, furtherOf, Shows, textOf, eight, choiceText};
 ghost use Rattle.write.specs.Line.{Writes, lineOf, copied};
 ghost use Rattle.write.specs.Answers.{answerOf};
 
@@ -48,8 +49,8 @@ pub enum Written {
     Refused(u8),
 }
 
-// Enough for the standard line of a legal record: none has more than 68 bytes.
-const ROOM: usize = 72;
+// Enough for the standard line of a legal record: none has more than 77 bytes.
+const ROOM: usize = 80;
 
 // The refusals of writing.
 const NOT_LEGAL: u8 = 8;
@@ -166,19 +167,58 @@ fn combination_modifier(c: Combination) -> u64
     }
 }
 
+// T(d) T(a) T(b) {sat} behind an opcode, and a last name that may be left out.
+fn three_types(
+    opcode: u64,
+    dtype: VideoType,
+    atype: VideoType,
+    btype: VideoType,
+    sat: bool,
+    last: u64,
+) -> [u64; 6]
+    ensures { λ m. ⌜ ThreeTypes opcode dtype atype btype sat last m ⌝ }
+{
+    [
+        opcode,
+        dot(names::video_number(dtype)),
+        dot(names::video_number(atype)),
+        dot(names::video_number(btype)),
+        dot_if(sat, names::SAT),
+        last,
+    ]
+}
+
 fn arithmetic_head(op: Arith, dtype: VideoType, sat: bool, s: Scalar) -> [u64; 6]
     ensures { λ m. ⌜ spelled m ≡ headText (headNames (Arithmetic op dtype sat s)) ⌝ }
 {
     let atype = s.atype;
     let btype = s.btype;
     let form = s.form;
+    let opcode = names::arith_number(op);
+    three_types(opcode, dtype, atype, btype, sat, form_modifier(form))
+}
+
+fn arithmetic_lanes_head(op: LaneArith, dtype: VideoType, sat: bool, s: Lanes) -> [u64; 6]
+    ensures { λ m. ⌜ spelled m ≡ headText (headNames (ArithmeticLanes op dtype sat s)) ⌝ }
+{
+    let width = s.width;
+    let atype = s.atype;
+    let btype = s.btype;
+    let opcode = names::lane_arith_number(op, width);
+    three_types(opcode, dtype, atype, btype, sat, dot_if(s.add, names::ADD))
+}
+
+// T T CMP6 behind an opcode, and a last name that may be left out.
+fn two_types(opcode: u64, atype: VideoType, btype: VideoType, cmp: Cmp6, last: u64) -> [u64; 6]
+    ensures { λ m. ⌜ TwoTypes opcode atype btype cmp last m ⌝ }
+{
     [
-        names::arith_number(op),
-        dot(names::video_number(dtype)),
+        opcode,
         dot(names::video_number(atype)),
         dot(names::video_number(btype)),
-        dot_if(sat, names::SAT),
-        form_modifier(form),
+        dot(names::six_number(cmp)),
+        last,
+        0,
     ]
 }
 
@@ -188,30 +228,17 @@ fn vset_head(cmp: Cmp6, s: Scalar) -> [u64; 6]
     let atype = s.atype;
     let btype = s.btype;
     let form = s.form;
-    [
-        names::VSET,
-        dot(names::video_number(atype)),
-        dot(names::video_number(btype)),
-        dot(names::six_number(cmp)),
-        form_modifier(form),
-        0,
-    ]
+    two_types(names::VSET, atype, btype, cmp, form_modifier(form))
 }
 
-fn lanes_head(cmp: Cmp6, s: Lanes) -> [u64; 6]
+fn vset_lanes_head(cmp: Cmp6, s: Lanes) -> [u64; 6]
     ensures { λ m. ⌜ spelled m ≡ headText (headNames (VsetLanes cmp s)) ⌝ }
 {
     let width = s.width;
     let atype = s.atype;
     let btype = s.btype;
-    [
-        names::lanes_number(width),
-        dot(names::video_number(atype)),
-        dot(names::video_number(btype)),
-        dot(names::six_number(cmp)),
-        dot_if(s.add, names::ADD),
-        0,
-    ]
+    let opcode = names::lanes_number(width);
+    two_types(opcode, atype, btype, cmp, dot_if(s.add, names::ADD))
 }
 
 fn set_head(dtype: SetType, d: Word, s: Comparison) -> [u64; 6]
@@ -368,7 +395,7 @@ fn scalar_texts(s: Scalar) -> [u64; 8]
     )
 }
 
-// ---- operands of vset2 and vset4: default masks and selectors are left out
+// ---- operands of the forms with 2 and 4: default masks and selectors are left out
 
 fn same_mask(x: Mask, y: Mask) -> bool
     ensures { λ m. ⌜ m ≡ sameMask x y ⌝ }
@@ -537,7 +564,16 @@ fn row_texts(i: Instruction) -> Row
             operands: scalar_texts(scalar),
         },
         Instruction::VsetLanes { cmp, lanes } => Row {
-            head: lanes_head(cmp, lanes),
+            head: vset_lanes_head(cmp, lanes),
+            operands: lanes_texts(lanes),
+        },
+        Instruction::ArithmeticLanes {
+            op,
+            dtype,
+            sat,
+            lanes,
+        } => Row {
+            head: arithmetic_lanes_head(op, dtype, sat, lanes),
             operands: lanes_texts(lanes),
         },
         Instruction::Set {

@@ -4,10 +4,10 @@ use Rattle.samples.proofs.writing.mark.Statement.{statement}
 use Rattle.samples.proofs.writing.mark.Tie as tie
 
 abbrev Inv-loop : tie.InvT-loop
-Inv-loop n area line end k₀ k = k ≤ 104
+Inv-loop n area line end k₀ k = k ≤ 112
 
 abbrev μ-loop : tie.MeasureT-loop
-μ-loop n area line end k₀ k = 104 - k
+μ-loop n area line end k₀ k = 112 - k
 
 add-end : tie.Need-add-end Inv-loop μ-loop
 add-end c = search needs
