@@ -1,4 +1,4 @@
--- Document 01, "Bench figures": the starred ones, as one list with one claim. Each is a record with its files, through `run`, and the whole
+-- Document 01, "Bench figures": the starred ones, and those of request T-01, as one list with one claim. Each is a record with its files, through `run`, and the whole
 -- outcome. `%r0`, `%r1` and `%r2` hold a, b and c; d is `%r3`. Predicate 0 holds c of setp; its places are 1 and 2.
 use Prim.Native.Nat.{ℕ}
 use mathlib.Core.Path.{_≡_, refl}
@@ -30,15 +30,18 @@ use Rattle.record.specs.declared.LaneWidth.the-variants.{Half, Byte}
 use Rattle.record.specs.declared.Mask.{Mask}
 use Rattle.record.specs.declared.Digits.{Digits}
 use Rattle.record.specs.declared.Arith.{Arith}
-use Rattle.record.specs.declared.Arith.the-variants.{Vadd, Vabsdiff}
+use Rattle.record.specs.declared.Arith.the-variants.{Vadd, Vsub, Vabsdiff, Vmin, Vmax}
+use Rattle.record.specs.declared.LaneArith.{LaneArith}
+use Rattle.record.specs.declared.LaneArith.the-variants.{Scalar, Vavrg}
+use Rattle.record.specs.declared.Lanes.{Lanes}
 use Rattle.record.specs.declared.Operand
 use Rattle.record.specs.declared.Operand.{Operand}
 use Rattle.record.specs.declared.Destination.the-variants.{Pair}
 use Rattle.record.specs.declared.Instruction.{Instruction}
-use Rattle.record.specs.declared.Instruction.the-variants.{Arithmetic, VsetLanes, Set, Setp}
+use Rattle.record.specs.declared.Instruction.the-variants.{Arithmetic, VsetLanes, ArithmeticLanes, Set, Setp}
 use Rattle.record.specs.declared.Record.{Record}
 use Rattle.rules.specs.Numbers.{exactOf, holdsZ}
-use Rattle.rules.specs.Execution.{selectedOf, formOf, arithmeticOf, laneHolds, lanesOf, valueOf, comparisonOf}
+use Rattle.rules.specs.Execution.{selectedOf, formOf, arithmeticOf, laneHolds, lanesOf, laneResult, arithmeticLanesOf, valueOf, comparisonOf}
 use Rattle.rules.specs.Executing.{Files, files, done, outcome, combinedOf, testOf, writes, after, sizesFit, predsFit, guardHolds, run}
 
 pub record Figure : Type 0 where
@@ -65,11 +68,19 @@ abbrev three : ℕ → ℕ → ℕ → List ℕ
 three p q s = p ∷ q ∷ s ∷ replicate 13 0
 
 -- %r3, %r0, %r1, %r2 with a mask and a's selector; b's selector is its default
+abbrev lanes : LaneWidth → VideoType → VideoType → Bool → Mask → Digits → Lanes
+lanes w atype btype add mask asel =
+    record { width = w; atype = atype; btype = btype; add = add; d = r 3; mask = mask; a = r 0; asel = asel; b = r 1; bsel = defaultB w; c = r 2 }
+
 abbrev lanesLine : LaneWidth → VideoType → Cmp6 → Bool → Mask → Digits → Record
-lanesLine w atype cmp add mask asel =
-    always
-    (VsetLanes cmp
-    (record { width = w; atype = atype; btype = U32; add = add; d = r 3; mask = mask; a = r 0; asel = asel; b = r 1; bsel = defaultB w; c = r 2 }))
+lanesLine w atype cmp add mask asel = always (VsetLanes cmp (lanes w atype U32 add mask asel))
+
+abbrev arithmeticLine : LaneArith → LaneWidth → VideoType → VideoType → VideoType → Bool → Bool → Mask → Digits → Record
+arithmeticLine op w dtype atype btype sat add mask asel = always (ArithmeticLanes op dtype sat (lanes w atype btype add mask asel))
+
+-- all of one type, full mask, default selectors
+abbrev allOf : LaneArith → LaneWidth → VideoType → Bool → Bool → Record
+allOf op w t sat add = arithmeticLine op w t t t sat add (fullMask w) (defaultA w)
 
 abbrev scalarLine : Arith → VideoType → Bool → VideoType → VideoType → Form → Record
 scalarLine op dtype sat atype btype form =
@@ -79,14 +90,17 @@ scalarLine op dtype sat atype btype form =
 abbrev gives : Record → ℕ → ℕ → ℕ → ℕ → Figure
 gives line a b c d = record { line = line; before = lent (four a b c 0) (three 0 0 0); left = lent (four a b c d) (three 0 0 0) }
 
--- h01, b20
+-- h01, b0123, b20
 abbrev h01 : Digits
 h01 = record { lane0 = 1; lane1 = 0; lane2 = 0; lane3 = 0 }
+
+abbrev b0123 : Digits
+b0123 = record { lane0 = 3; lane1 = 2; lane2 = 1; lane3 = 0 }
 
 abbrev b20 : Mask
 b20 = record { lane0 = true; lane1 = false; lane2 = true; lane3 = false }
 
--- ---- the starred figures
+-- ---- the starred figures, and those of T-01
 
 unfoldable pub figures : List Figure
 figures =
@@ -126,9 +140,30 @@ figures =
       before = lent (four 0xFFFFFFFF 0 0 0) (three 0 1 1);
       left = lent (four 0xFFFFFFFF 0 0 0) (three 0 0 0);
     }
+    -- T-01. vavrg4 all u32, 00FF0102, 01FF0203: 01FF0203; all s32, FFFD8001, 00FE8002: FFFD8002. vavrg2 all s32, FFFF8000, 00008001: FFFF8000
+    ∷ gives (allOf Vavrg Byte U32 false false) 0x00FF0102 0x01FF0203 0 0x01FF0203
+    ∷ gives (allOf Vavrg Byte S32 false false) 0xFFFD8001 0x00FE8002 0 0xFFFD8002
+    ∷ gives (allOf Vavrg Half S32 false false) 0xFFFF8000 0x00008001 0 0xFFFF8000
+    -- vadd4 all u32, FF800102, 01800304: 00000406; `sat` FFFF0406; `add` with c 0: 0000020A; `sat` and `add`: 00000208
+    ∷ gives (allOf (Scalar Vadd) Byte U32 false false) 0xFF800102 0x01800304 0 0x00000406
+    ∷ gives (allOf (Scalar Vadd) Byte U32 true false) 0xFF800102 0x01800304 0 0xFFFF0406
+    ∷ gives (allOf (Scalar Vadd) Byte U32 false true) 0xFF800102 0x01800304 0 0x0000020A
+    ∷ gives (allOf (Scalar Vadd) Byte U32 true true) 0xFF800102 0x01800304 0 0x00000208
+    -- vsub4 all u32 with `add`, 0, 01010101, c 10: 0000000C; with `sat` too: 00000010
+    ∷ gives (allOf (Scalar Vsub) Byte U32 false true) 0 0x01010101 0x10 0x0000000C
+    ∷ gives (allOf (Scalar Vsub) Byte U32 true true) 0 0x01010101 0x10 0x00000010
+    -- vsub4.s32.u32.u32 into `.b20`, 00FF0005, 01010101, c AABBCCDD: AAFECC04
+    ∷ gives (arithmeticLine (Scalar Vsub) Byte S32 U32 U32 false false b20 (defaultA Byte)) 0x00FF0005 0x01010101 0xAABBCCDD 0xAAFECC04
+    -- vabsdiff4.u32.s32.u32, 80FF0001, FF0102FE: 7F0202FD; all s32 `sat`, 80FF0001, 7F0102FE: 7F020203
+    ∷ gives (arithmeticLine (Scalar Vabsdiff) Byte U32 S32 U32 false false (fullMask Byte) (defaultA Byte)) 0x80FF0001 0xFF0102FE 0 0x7F0202FD
+    ∷ gives (allOf (Scalar Vabsdiff) Byte S32 true false) 0x80FF0001 0x7F0102FE 0 0x7F020203
+    -- vmin2.u32.s32.u32, FFFF0005, 00010006: FFFF0005
+    ∷ gives (arithmeticLine (Scalar Vmin) Half U32 S32 U32 false false (fullMask Half) (defaultA Half)) 0xFFFF0005 0x00010006 0 0xFFFF0005
+    -- vmax4 all u32, a `.b0123` 01020304, 02020202: 04030202
+    ∷ gives (arithmeticLine (Scalar Vmax) Byte U32 U32 U32 false false (fullMask Byte) b0123) 0x01020304 0x02020202 0 0x04030202
     ∷ []
 
 -- each figure's record, run on its files, is done and leaves the files that the document gives
 pub figures-hold : map (λ (g : Figure). run (g .line) (g .before)) figures ≡ map (λ (g : Figure). outcome done (g .left)) figures
-unfolding figures run isLegal sizesFit predsFit guardHolds after writes arithmeticOf formOf selectedOf exactOf lanesOf laneHolds holdsZ combinedOf testOf comparisonOf valueOf eq ofBits ofFields odd
+unfolding figures run isLegal sizesFit predsFit guardHolds after writes arithmeticOf formOf selectedOf exactOf lanesOf laneHolds holdsZ laneResult arithmeticLanesOf combinedOf testOf comparisonOf valueOf eq ofBits ofFields odd
 figures-hold = refl

@@ -24,6 +24,7 @@ use Rattle.record.specs.declared.CmpOp.{CmpOp}
 use Rattle.record.specs.declared.BoolOp.the-variants.{And, Xor}
 use Rattle.record.specs.declared.Op2.the-variants.{Min}
 use Rattle.record.specs.declared.Arith.the-variants.{Vadd, Vabsdiff}
+use Rattle.record.specs.declared.LaneArith.the-variants.{Scalar, Vavrg}
 use Rattle.record.specs.declared.Guard.the-variants.{Always, When}
 use Rattle.record.specs.declared.Combination.the-variants.{Alone, With}
 use Rattle.record.specs.declared.Selector.the-variants.{B0, B2, H1}
@@ -34,7 +35,7 @@ use Rattle.record.specs.declared.Operand
 use Rattle.record.specs.declared.Operand.{Operand}
 use Rattle.record.specs.declared.Destination.the-variants.{One, Pair, First, Second}
 use Rattle.record.specs.declared.Instruction.{Instruction}
-use Rattle.record.specs.declared.Instruction.the-variants.{Arithmetic, Vset, VsetLanes, Set, Setp, Selp, Slct}
+use Rattle.record.specs.declared.Instruction.the-variants.{Arithmetic, Vset, VsetLanes, ArithmeticLanes, Set, Setp, Selp, Slct}
 use Rattle.record.specs.declared.Record.{Record}
 use Rattle.rules.specs.StandardLine.{standard}
 
@@ -137,6 +138,39 @@ lines =
       bsel = defaultB Byte;
       c = r 4;
     }))) (bytes "vset4.u32.u32.lt %r1.b320, %r2.b4307, %r3, %r4;")
+    -- T-01
+    ∷ is
+    (always
+    (ArithmeticLanes Vavrg S32 false
+    (record {
+      width = Half;
+      atype = U32;
+      btype = S32;
+      add = true;
+      d = r 1;
+      mask = fullMask Half;
+      a = r 2;
+      asel = defaultA Half;
+      b = r 3;
+      bsel = defaultA Half;
+      c = r 4;
+    }))) (bytes "vavrg2.s32.u32.s32.add %r1, %r2, %r3.h10, %r4;")
+    ∷ is
+    (always
+    (ArithmeticLanes (Scalar Vabsdiff) U32 true
+    (record {
+      width = Byte;
+      atype = U32;
+      btype = U32;
+      add = true;
+      d = r 1;
+      mask = record { lane0 = true; lane1 = false; lane2 = true; lane3 = false };
+      a = r 2;
+      asel = record { lane0 = 7; lane1 = 0; lane2 = 3; lane3 = 4 };
+      b = r 3;
+      bsel = defaultB Byte;
+      c = r 4;
+    }))) (bytes "vabsdiff4.u32.u32.u32.sat.add %r1.b20, %r2.b4307, %r3, %r4;")
     ∷ is
     (record {
       guard = When (plain 15);
