@@ -1,5 +1,6 @@
 /*
- * The listing program of the PTX line bench, worked out from document 01.
+ * The listing program of the PTX line bench, worked out from document 01 and
+ * request T-01.
  *
  * It reads a listing from standard input, reads each line into a record,
  * executes the record, and writes one answer per line and, at the end, the
@@ -115,7 +116,10 @@ typedef enum {
     W_NONE,    /* no name stands here */
     W_OTHER,   /* a name that is none of the words */
     W_VADD, W_VSUB, W_VABSDIFF, W_VMIN, W_VMAX,
-    W_VSET, W_VSET2, W_VSET4, W_SET, W_SETP, W_SELP, W_SLCT,
+    W_VSET,
+    W_VSET2, W_VADD2, W_VSUB2, W_VAVRG2, W_VABSDIFF2, W_VMIN2, W_VMAX2,
+    W_VSET4, W_VADD4, W_VSUB4, W_VAVRG4, W_VABSDIFF4, W_VMIN4, W_VMAX4,
+    W_SET, W_SETP, W_SELP, W_SLCT,
     W_U32, W_S32, W_F32, W_B32, W_B64, W_U64, W_S64, W_F64,
     W_EQ, W_NE, W_LT, W_LE, W_GT, W_GE,
     W_LO, W_LS, W_HI, W_HS,
@@ -129,8 +133,13 @@ typedef enum {
 static const char *const spelling[WORD_COUNT] = {
     [W_VADD] = "vadd", [W_VSUB] = "vsub", [W_VABSDIFF] = "vabsdiff",
     [W_VMIN] = "vmin", [W_VMAX] = "vmax", [W_VSET] = "vset",
-    [W_VSET2] = "vset2", [W_VSET4] = "vset4", [W_SET] = "set",
-    [W_SETP] = "setp", [W_SELP] = "selp", [W_SLCT] = "slct",
+    [W_VSET2] = "vset2", [W_VADD2] = "vadd2", [W_VSUB2] = "vsub2",
+    [W_VAVRG2] = "vavrg2", [W_VABSDIFF2] = "vabsdiff2",
+    [W_VMIN2] = "vmin2", [W_VMAX2] = "vmax2",
+    [W_VSET4] = "vset4", [W_VADD4] = "vadd4", [W_VSUB4] = "vsub4",
+    [W_VAVRG4] = "vavrg4", [W_VABSDIFF4] = "vabsdiff4",
+    [W_VMIN4] = "vmin4", [W_VMAX4] = "vmax4",
+    [W_SET] = "set", [W_SETP] = "setp", [W_SELP] = "selp", [W_SLCT] = "slct",
     [W_U32] = "u32", [W_S32] = "s32", [W_F32] = "f32", [W_B32] = "b32",
     [W_B64] = "b64", [W_U64] = "u64", [W_S64] = "s64", [W_F64] = "f64",
     [W_EQ] = "eq", [W_NE] = "ne", [W_LT] = "lt", [W_LE] = "le",
@@ -144,6 +153,7 @@ static const char *const spelling[WORD_COUNT] = {
 };
 
 static bool is_opcode(Word w)     { return w >= W_VADD && w <= W_SLCT; }
+static bool is_simd(Word w)       { return w >= W_VSET2 && w <= W_VMAX4; }
 static bool is_video_type(Word w) { return w == W_U32 || w == W_S32; }
 static bool is_set_dtype(Word w)  { return w >= W_U32 && w <= W_F32; }
 static bool is_type(Word w)       { return w >= W_U32 && w <= W_F64; }
@@ -151,6 +161,9 @@ static bool is_wide(Word w)       { return w >= W_B64 && w <= W_F64; }
 static bool is_cmp6(Word w)       { return w >= W_EQ && w <= W_GE; }
 static bool is_op2(Word w)        { return w >= W_ADD && w <= W_MAX; }
 static bool is_bool_op(Word w)    { return w >= W_AND && w <= W_XOR; }
+
+/* Of the forms with 2 and with 4. */
+static unsigned lanes_of(Word op) { return op <= W_VMAX2 ? 2 : 4; }
 
 /* CmpOp by stype. */
 static bool compares(Word cmp, Word stype)
@@ -169,50 +182,56 @@ static bool compares(Word cmp, Word stype)
     }
 }
 
-/*
- * A name is carried as a key: its bytes packed into 64 bits, the first byte
- * lowest.  No name of interest has more than eight bytes; a longer one gets
- * KEY_LONG, which no packed name can equal.  The key 0 means no name.
- */
-typedef uint64_t Key;
-
-#define KEY_LONG UINT64_MAX
-
 enum { DICTIONARY_SIZE = 256 };
 
-static struct {
-    Key key;
-    Word word;
-} dictionary[DICTIONARY_SIZE];
+static Word dictionary[DICTIONARY_SIZE];        /* W_NONE where it is free */
 
-static unsigned dictionary_slot(Key key)
+static unsigned dictionary_slot(const Byte *name, size_t length)
 {
-    return (unsigned)((key * UINT64_C(0x9E3779B97F4A7C15)) >> 56);
+    uint32_t hash = UINT32_C(2166136261);
+    for (size_t i = 0; i < length; i++)
+        hash = (hash ^ name[i]) * UINT32_C(16777619);
+    return (hash ^ hash >> 16) % DICTIONARY_SIZE;
 }
 
 static void fill_dictionary(void)
 {
     for (int w = W_VADD; w < WORD_COUNT; w++) {
-        Key key = 0;
-        for (unsigned i = 0; spelling[w][i] != '\0'; i++)
-            key |= (Key)(Byte)spelling[w][i] << (8 * i);
-        unsigned slot = dictionary_slot(key);
-        while (dictionary[slot].key != 0)
+        unsigned slot = dictionary_slot((const Byte *)spelling[w], strlen(spelling[w]));
+        while (dictionary[slot] != W_NONE)
             slot = (slot + 1) % DICTIONARY_SIZE;
-        dictionary[slot].key = key;
-        dictionary[slot].word = (Word)w;
+        dictionary[slot] = (Word)w;
     }
 }
 
-static Word word_of(Key key)
+static Word word_of(const Byte *name, size_t length)
 {
-    unsigned slot = dictionary_slot(key);
-    while (dictionary[slot].key != 0) {
-        if (dictionary[slot].key == key)
-            return dictionary[slot].word;
-        slot = (slot + 1) % DICTIONARY_SIZE;
+    unsigned slot = dictionary_slot(name, length);
+    for (; dictionary[slot] != W_NONE; slot = (slot + 1) % DICTIONARY_SIZE) {
+        const char *word = spelling[dictionary[slot]];
+        if (strlen(word) == length && memcmp(word, name, length) == 0)
+            return dictionary[slot];
     }
     return W_OTHER;
+}
+
+/*
+ * The name of a selector is carried as a key: its bytes packed into 64 bits,
+ * the first byte lowest.  No selector has more than eight bytes; a longer name
+ * gets KEY_LONG, which no packed name can equal.  The key 0 means no name.
+ */
+typedef uint64_t Key;
+
+#define KEY_LONG UINT64_MAX
+
+static Key key_of(const Byte *name, size_t length)
+{
+    Key key = 0;
+    if (length > 8)
+        return KEY_LONG;
+    for (unsigned i = 0; i < length; i++)
+        key |= (Key)name[i] << (8 * i);
+    return key;
 }
 
 /* ------------------------------------------------------------------------
@@ -274,15 +293,12 @@ static const Byte *skip_blanks(const Byte *p)
     return p;
 }
 
-static const Byte *read_name(const Byte *p, Key *key)
+static const Byte *read_name(const Byte *p)
 {
-    Key k = 0;
-    unsigned length = 0;
-    for (; is_name_byte(*p); p++, length++)
-        if (length < 8)
-            k |= (Key)*p << (8 * length);
-    *key = length > 8 ? KEY_LONG : k;
-    return length > 0 ? p : NULL;
+    const Byte *start = p;
+    while (is_name_byte(*p))
+        p++;
+    return p > start ? p : NULL;
 }
 
 static const Byte *read_register(const Byte *p, Place *place)
@@ -342,7 +358,10 @@ static const Byte *read_operand(const Byte *p, Operand *o)
         } else if (o->first.file == SINK) {
             return NULL;
         } else if (*p == '.') {
-            p = read_name(p + 1, &o->selector);
+            const Byte *name = p + 1;
+            p = read_name(name);
+            if (p != NULL)
+                o->selector = key_of(name, (size_t)(p - name));
         }
         if (p == NULL)
             return NULL;
@@ -373,12 +392,12 @@ static const Byte *read_head(const Byte *p, Line *line)
     const Byte *start = p;
     line->names = 0;
     for (;;) {
-        Key key;
-        p = read_name(p, &key);
+        const Byte *name = p;
+        p = read_name(name);
         if (p == NULL)
             return NULL;
         if (line->names < NAMES_KEPT)
-            line->name[line->names] = word_of(key);
+            line->name[line->names] = word_of(name, (size_t)(p - name));
         line->names++;
         if (*p != '.')
             break;
@@ -452,9 +471,15 @@ typedef struct {
     unsigned p, q;              /* setp: the two places */
     bool c_negated;
     Part dpart, apart, bpart;   /* scalar video */
-    unsigned mask;              /* vset2, vset4: bit i for lane i */
+    unsigned mask;              /* forms with 2 and 4: bit i for lane i */
     unsigned asel[4], bsel[4];  /* part number of each lane, lane 0 first */
 } Record;
+
+/* What may stand last in a video head: by lanes there is `add` alone. */
+static bool is_second(Word op, Word w)
+{
+    return is_simd(op) ? w == W_ADD : is_op2(w);
+}
 
 static bool read_modifiers(const Line *line, Record *rec)
 {
@@ -464,21 +489,6 @@ static bool read_modifiers(const Line *line, Record *rec)
     rec->ftz = false;
 
     switch (rec->op) {
-    case W_VADD: case W_VSUB: case W_VABSDIFF: case W_VMIN: case W_VMAX:
-        if (!is_video_type(m[0]) || !is_video_type(m[1]) || !is_video_type(m[2]))
-            return false;
-        rec->dtype = m[0];
-        rec->atype = m[1];
-        rec->btype = m[2];
-        m += 3;
-        if (*m == W_SAT) {
-            rec->sat = true;
-            m++;
-        }
-        if (is_op2(*m))
-            rec->second = *m++;
-        break;
-
     case W_VSET: case W_VSET2: case W_VSET4:
         if (!is_video_type(m[0]) || !is_video_type(m[1]) || !is_cmp6(m[2]))
             return false;
@@ -487,7 +497,7 @@ static bool read_modifiers(const Line *line, Record *rec)
         rec->btype = m[1];
         rec->cmp = m[2];
         m += 3;
-        if (rec->op == W_VSET ? is_op2(*m) : *m == W_ADD)
+        if (is_second(rec->op, *m))
             rec->second = *m++;
         break;
 
@@ -531,8 +541,20 @@ static bool read_modifiers(const Line *line, Record *rec)
         m += 2;
         break;
 
-    default:
-        return false;
+    default:        /* arithmetic, scalar or by lanes */
+        if (!is_video_type(m[0]) || !is_video_type(m[1]) || !is_video_type(m[2]))
+            return false;
+        rec->dtype = m[0];
+        rec->atype = m[1];
+        rec->btype = m[2];
+        m += 3;
+        if (*m == W_SAT) {
+            rec->sat = true;
+            m++;
+        }
+        if (is_second(rec->op, *m))
+            rec->second = *m++;
+        break;
     }
     return (size_t)(m - line->name) == line->names;
 }
@@ -568,7 +590,7 @@ static bool read_part(Key key, Part *part)
     return true;
 }
 
-/* A selector of vset2 or vset4; `first` is the default part of lane 0. */
+/* A selector of the forms with 2 and 4; `first` is the default part of lane 0. */
 static bool read_lane_selector(Operand *o, unsigned lanes, unsigned first, unsigned sel[4])
 {
     bool is_default = true;
@@ -596,7 +618,7 @@ static bool read_lane_selector(Operand *o, unsigned lanes, unsigned first, unsig
     return true;
 }
 
-/* A mask of vset2 or vset4: the letter, then strictly falling digits. */
+/* A mask of the forms with 2 and 4: the letter, then strictly falling digits. */
 static bool read_mask(Operand *o, unsigned lanes, unsigned *mask)
 {
     unsigned full = (1u << lanes) - 1;
@@ -668,22 +690,8 @@ static bool read_record_operands(Line *line, Record *rec)
     rec->c = c != NULL ? c->first.number : 0;
     rec->c_negated = false;
 
-    switch (rec->op) {
-    case W_VADD: case W_VSUB: case W_VABSDIFF: case W_VMIN: case W_VMAX: case W_VSET:
-        if (!is_word(d) || !is_word(a) || !is_word(b))
-            return false;
-        if (c != NULL && !is_bare(c, FILE_R))
-            return false;
-        if (!read_part(d->selector, &rec->dpart) ||
-            !read_part(a->selector, &rec->apart) ||
-            !read_part(b->selector, &rec->bpart))
-            return false;
-        if (rec->second != W_NONE)
-            return c != NULL && d->selector == 0;
-        return (c != NULL) == (d->selector != 0);
-
-    case W_VSET2: case W_VSET4: {
-        unsigned lanes = rec->op == W_VSET2 ? 2 : 4;
+    if (is_simd(rec->op)) {
+        unsigned lanes = lanes_of(rec->op);
         return c != NULL && is_word(d) && is_word(a) && is_word(b) &&
                is_bare(c, FILE_R) &&
                read_mask(d, lanes, &rec->mask) &&
@@ -691,6 +699,7 @@ static bool read_record_operands(Line *line, Record *rec)
                read_lane_selector(b, lanes, lanes, rec->bsel);
     }
 
+    switch (rec->op) {
     case W_SET: case W_SETP:
         file = is_wide(rec->atype) ? FILE_RD : FILE_R;
         if (!is_bare(a, file) || !is_bare(b, file) || !read_bool_operand(line, rec))
@@ -702,8 +711,18 @@ static bool read_record_operands(Line *line, Record *rec)
         return c != NULL && is_bare(d, file) && is_bare(a, file) && is_bare(b, file) &&
                is_bare(c, rec->op == W_SELP ? FILE_P : FILE_R);
 
-    default:
-        return false;
+    default:        /* scalar video */
+        if (!is_word(d) || !is_word(a) || !is_word(b))
+            return false;
+        if (c != NULL && !is_bare(c, FILE_R))
+            return false;
+        if (!read_part(d->selector, &rec->dpart) ||
+            !read_part(a->selector, &rec->apart) ||
+            !read_part(b->selector, &rec->bpart))
+            return false;
+        if (rec->second != W_NONE)
+            return c != NULL && d->selector == 0;
+        return (c != NULL) == (d->selector != 0);
     }
 }
 
@@ -848,22 +867,39 @@ static int64_t clamp(int64_t n, Word type, unsigned width)
     return greatest(low, least(n, low + size - 1));
 }
 
+/* Rounds down, below zero too. */
+static int64_t half_of(int64_t n)
+{
+    return n < 0 ? -((1 - n) / 2) : n / 2;
+}
+
+static int64_t average(int64_t x, int64_t y)
+{
+    int64_t sum = x + y;
+    return half_of(sum >= 0 ? sum + 1 : sum);
+}
+
+/* The exact result of a video opcode on two numbers, clamped to `width` bits of dtype if `sat`. */
+static int64_t video_result(const Record *rec, int64_t x, int64_t y, unsigned width)
+{
+    int64_t n;
+    switch (rec->op) {
+    case W_VADD:     case W_VADD2:     case W_VADD4:     n = x + y; break;
+    case W_VSUB:     case W_VSUB2:     case W_VSUB4:     n = x - y; break;
+    case W_VABSDIFF: case W_VABSDIFF2: case W_VABSDIFF4: n = x < y ? y - x : x - y; break;
+    case W_VMIN:     case W_VMIN2:     case W_VMIN4:     n = least(x, y); break;
+    case W_VMAX:     case W_VMAX2:     case W_VMAX4:     n = greatest(x, y); break;
+    case W_VAVRG2:   case W_VAVRG4:                      n = average(x, y); break;
+    default: /* vset */                                  n = (order_signed(x, y) & accepts[rec->cmp]) != 0; break;
+    }
+    return rec->sat ? clamp(n, rec->dtype, width) : n;
+}
+
 static uint32_t scalar_video(const Record *rec, uint32_t a, uint32_t b, uint32_t c)
 {
     int64_t x = part_number(a, rec->apart, rec->atype);
     int64_t y = part_number(b, rec->bpart, rec->btype);
-    int64_t n;
-
-    switch (rec->op) {
-    case W_VADD:     n = x + y; break;
-    case W_VSUB:     n = x - y; break;
-    case W_VABSDIFF: n = x < y ? y - x : x - y; break;
-    case W_VMIN:     n = least(x, y); break;
-    case W_VMAX:     n = greatest(x, y); break;
-    default:         n = (order_signed(x, y) & accepts[rec->cmp]) != 0; break;
-    }
-    if (rec->sat)
-        n = clamp(n, rec->dtype, rec->dpart.width);
+    int64_t n = video_result(rec, x, y, rec->dpart.width);
 
     int64_t c_number = number_of(c, 32, rec->dtype);
     switch (rec->second) {
@@ -879,11 +915,11 @@ static uint32_t scalar_video(const Record *rec, uint32_t a, uint32_t b, uint32_t
 
 static uint32_t simd_video(const Record *rec, uint32_t a, uint32_t b, uint32_t c)
 {
-    unsigned lanes = rec->op == W_VSET2 ? 2 : 4;
+    unsigned lanes = lanes_of(rec->op);
     unsigned width = 32 / lanes;
     uint64_t parts = (uint64_t)b << 32 | a;
     uint32_t merged = 0;
-    uint32_t count = 0;
+    uint32_t sum = 0;           /* of the exact results; their low 32 bits are enough */
 
     for (unsigned i = 0; i < lanes; i++) {
         uint32_t lane = low_bits(width) << (width * i);
@@ -893,14 +929,12 @@ static uint32_t simd_video(const Record *rec, uint32_t a, uint32_t b, uint32_t c
         }
         uint32_t x = (uint32_t)(parts >> (width * rec->asel[i])) & low_bits(width);
         uint32_t y = (uint32_t)(parts >> (width * rec->bsel[i])) & low_bits(width);
-        unsigned order = order_signed(number_of(x, width, rec->atype),
-                                      number_of(y, width, rec->btype));
-        if ((order & accepts[rec->cmp]) != 0) {
-            merged |= UINT32_C(1) << (width * i);
-            count++;
-        }
+        int64_t n = video_result(rec, number_of(x, width, rec->atype),
+                                 number_of(y, width, rec->btype), width);
+        merged |= ((uint32_t)n << (width * i)) & lane;
+        sum += (uint32_t)n;
     }
-    return rec->second == W_ADD ? c + count : merged;
+    return rec->second == W_ADD ? c + sum : merged;
 }
 
 /* t of set and setp. */
@@ -961,14 +995,6 @@ static bool execute(Machine *m, const Record *rec)
         return false;
 
     switch (rec->op) {
-    case W_VADD: case W_VSUB: case W_VABSDIFF: case W_VMIN: case W_VMAX: case W_VSET:
-        m->r[rec->d] = scalar_video(rec, m->r[rec->a], m->r[rec->b], m->r[rec->c]);
-        break;
-
-    case W_VSET2: case W_VSET4:
-        m->r[rec->d] = simd_video(rec, m->r[rec->a], m->r[rec->b], m->r[rec->c]);
-        break;
-
     case W_SET: case W_SETP: {
         bool t = comparison(m, rec);
         bool c = rec->second != W_NONE && (m->p[rec->c] != 0) != rec->c_negated;
@@ -986,7 +1012,7 @@ static bool execute(Machine *m, const Record *rec)
         break;
     }
 
-    default: {      /* selp, slct */
+    case W_SELP: case W_SLCT: {
         bool pick_a = rec->op == W_SELP ? m->p[rec->c] == 1
                                         : at_or_above_zero(m->r[rec->c], rec->btype);
         unsigned from = pick_a ? rec->a : rec->b;
@@ -996,6 +1022,11 @@ static bool execute(Machine *m, const Record *rec)
             m->r[rec->d] = m->r[from];
         break;
     }
+
+    default:        /* video */
+        m->r[rec->d] = (is_simd(rec->op) ? simd_video : scalar_video)
+                           (rec, m->r[rec->a], m->r[rec->b], m->r[rec->c]);
+        break;
     }
     return true;
 }
@@ -1432,10 +1463,10 @@ static void take_lane_digits(unsigned sel[4])
         sel[i] = take_number(255);
 }
 
-static void take_lanes(Record *rec)
+/* `op` is the opcode with 2; those with 4 stand in the same order. */
+static void take_lanes(Record *rec, Word op)
 {
-    rec->op = take_bool() ? W_VSET4 : W_VSET2;
-    rec->cmp = take_cmp(W_GE);
+    rec->op = take_bool() ? (Word)(op + W_VSET4 - W_VSET2) : op;
     rec->atype = take_video_type();
     rec->btype = take_video_type();
     rec->second = take_bool() ? W_ADD : W_NONE;
@@ -1500,7 +1531,7 @@ static void take_record(Sample *s)
     Record *rec = &s->rec;
     memset(s, 0, sizeof *s);
     take_guard(rec);
-    switch (take_number(6)) {
+    switch (take_number(7)) {
     case 0:
         rec->op = (Word)(W_VADD + take_number(4));
         rec->dtype = take_video_type();
@@ -1514,7 +1545,8 @@ static void take_record(Sample *s)
         take_scalar(rec);
         break;
     case 2:
-        take_lanes(rec);
+        rec->cmp = take_cmp(W_GE);
+        take_lanes(rec, W_VSET2);
         break;
     case 3:
         rec->op = W_SET;
@@ -1531,9 +1563,16 @@ static void take_record(Sample *s)
         rec->op = W_SELP;
         take_choice(s);
         break;
-    default:
+    case 6:
         take_slct(s);
         break;
+    default: {
+        Word op = (Word)(W_VADD2 + take_number(5));
+        rec->dtype = take_video_type();
+        rec->sat = take_bool();
+        take_lanes(rec, op);
+        break;
+    }
     }
 }
 
@@ -1553,7 +1592,7 @@ static bool scalar_has_c(const Record *rec)
     return rec->second != W_NONE || rec->dpart.width != whole_word.width;
 }
 
-/* Digits of a lane selector; lanes that vset2 has not hold 0. */
+/* Digits of a lane selector; lanes that a form with 2 has not hold 0. */
 static bool legal_digits(const unsigned sel[4], unsigned lanes)
 {
     for (unsigned i = 0; i < 4; i++)
@@ -1564,7 +1603,7 @@ static bool legal_digits(const unsigned sel[4], unsigned lanes)
 
 static bool legal_lanes(const Record *rec)
 {
-    unsigned lanes = rec->op == W_VSET2 ? 2 : 4;
+    unsigned lanes = lanes_of(rec->op);
     return rec->mask != 0 && rec->mask < 1u << lanes &&
            legal_digits(rec->asel, lanes) && legal_digits(rec->bsel, lanes) &&
            in_file(FILE_R, rec->d) && in_file(FILE_R, rec->a) &&
@@ -1607,9 +1646,9 @@ static bool legal(const Sample *s)
     const Record *rec = &s->rec;
     if (rec->guarded && !in_file(FILE_P, rec->guard))
         return false;
-    switch (rec->op) {
-    case W_VSET2: case W_VSET4:
+    if (is_simd(rec->op))
         return legal_lanes(rec);
+    switch (rec->op) {
     case W_SET:
         return in_file(FILE_R, rec->d) && legal_comparison(s);
     case W_SETP:
@@ -1694,7 +1733,7 @@ static void put_scalar_operands(const Record *rec)
 
 static void put_lane_operands(const Record *rec)
 {
-    unsigned lanes = rec->op == W_VSET2 ? 2 : 4;
+    unsigned lanes = lanes_of(rec->op);
     put_operand(FILE_R, rec->d);
     put_mask(rec->mask, lanes);
     put_next(FILE_R, rec->a);
@@ -1740,17 +1779,13 @@ static void put_choice_operands(const Sample *s)
     put_next(s->rec.op == W_SELP ? FILE_P : FILE_R, s->rec.c);
 }
 
+static bool is_vset(Word op) { return op == W_VSET || op == W_VSET2 || op == W_VSET4; }
+
 /* Modifiers in the order of document 01's table. */
 static void put_head(const Record *rec)
 {
     put_string(spelling[rec->op]);
     switch (rec->op) {
-    case W_VSET: case W_VSET2: case W_VSET4:
-        put_modifier(rec->atype);
-        put_modifier(rec->btype);
-        put_modifier(rec->cmp);
-        put_modifier(rec->second);
-        break;
     case W_SET: case W_SETP:
         put_modifier(rec->cmp);
         put_modifier(rec->second);
@@ -1763,10 +1798,11 @@ static void put_head(const Record *rec)
         put_modifier(rec->dtype);
         put_modifier(rec->op == W_SLCT ? rec->btype : W_NONE);
         break;
-    default:        /* scalar arithmetic */
-        put_modifier(rec->dtype);
+    default:        /* video */
+        put_modifier(is_vset(rec->op) ? W_NONE : rec->dtype);
         put_modifier(rec->atype);
         put_modifier(rec->btype);
+        put_modifier(is_vset(rec->op) ? rec->cmp : W_NONE);
         put_modifier(rec->sat ? W_SAT : W_NONE);
         put_modifier(rec->second);
         break;
@@ -1784,10 +1820,9 @@ static void put_record(const Sample *s)
     put_head(rec);
     put_byte(' ');
     switch (rec->op) {
-    case W_VSET2: case W_VSET4: put_lane_operands(rec); break;
     case W_SET: case W_SETP:    put_comparison_operands(s); break;
     case W_SELP: case W_SLCT:   put_choice_operands(s); break;
-    default:                    put_scalar_operands(rec); break;
+    default:                    (is_simd(rec->op) ? put_lane_operands : put_scalar_operands)(rec); break;
     }
     put_byte(';');
 }
@@ -1796,7 +1831,7 @@ static void put_record(const Sample *s)
  * Samples: writing
  * ------------------------------------------------------------------------ */
 
-enum { BUFFER_MOST = 72, MARGIN = 8, ROOM = MARGIN + BUFFER_MOST + MARGIN };
+enum { BUFFER_MOST = 80, MARGIN = 8, ROOM = MARGIN + BUFFER_MOST + MARGIN };
 
 /* Stores the standard line of a legal record and returns its length. */
 static size_t standard_line(const Sample *s, Byte *to)

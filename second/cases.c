@@ -14,7 +14,7 @@
 
 #define COUNT(array) ((unsigned)(sizeof(array) / sizeof(array)[0]))
 
-enum { TYPES = 8, CMPS = 18, CMP6 = 6, FORMS = 10, B32 = 0, F32 = 6, VALUES = 18 };
+enum { TYPES = 8, CMPS = 18, CMP6 = 6, OPS = 6, FORMS = 10, B32 = 0, F32 = 6, VALUES = 18 };
 
 /* Zeros, subnormals, least normals, ones, the greatest finite, infinities, NaNs; also least and greatest wholes. */
 static const uint64_t WORDS[VALUES] = {
@@ -140,7 +140,18 @@ static void digits(const unsigned sel[4])
         printf(" %u", sel[i]);
 }
 
-/* Lane i takes part first + i * step of the parts of two registers; vset2 has two lanes. */
+/* What stands in front of the lanes: of vset2 and vset4 cmp; of request T-01 op, dtype and sat. */
+static const char *in_front(bool arithmetic, unsigned choice)
+{
+    static char text[24];
+    if (arithmetic)
+        sprintf(text, "7 %u %u %u", choice % OPS, choice / OPS % 2, choice / OPS / 2 % 2);
+    else
+        sprintf(text, "2 %u", choice % CMP6);
+    return text;
+}
+
+/* Lane i takes part first + i * step of the parts of two registers; the forms with 2 have two lanes. */
 static void rising(unsigned lanes, unsigned first, unsigned step)
 {
     unsigned sel[4] = { 0 };
@@ -191,8 +202,8 @@ static const Base BASES[] = {
     { "0 0", "0 1 0 0 0 0 1 d 2 c 6 a 6 b" },               /* vsub into a part */
     { "0 0", "0 4 1 1 1 0 2 d 1 c 5 a 0 b" },               /* vmax with sat and OP2 */
     { "0 0", "1 2 0 0 2 d 0 c 6 a 6 b" },                   /* vset with OP2 */
-    { "0 0", "2 0 5 0 0 0 d 1 a 1 0 0 0 b 2 3 0 0 c" },     /* vset2 */
-    { "0 0", "2 1 5 0 0 1 d 7 a 0 1 2 3 b 4 5 6 7 c" },     /* vset4 with add */
+    { "0 0", "2 5 0 0 0 0 d 1 a 1 0 0 0 b 2 3 0 0 c" },     /* vset2 */
+    { "0 0", "2 5 1 0 0 1 d 7 a 0 1 2 3 b 4 5 6 7 c" },     /* vset4 with add */
     { "0 0", "3 0 d 2 1 0 c 0 2 0 a 0 b" },                 /* set */
     { "0 0", "3 2 d 2 2 1 c 0 7 1 a 1 b" },                 /* set on doubles */
     { "0 0", "4 0 d 0 2 2 0 c 1 6 0 a 0 b" },               /* setp */
@@ -201,7 +212,12 @@ static const Base BASES[] = {
     { "2 4", "5 3 1 d 1 a 1 b c" },                         /* selp on doubles, guarded */
     { "0 0", "6 0 2 0 d 0 a 0 b c" },                       /* slct */
     { "0 0", "6 2 7 1 d 1 a 1 b c" },                       /* slct on doubles */
+    { "0 0", "7 1 1 1 0 1 0 0 d 2 a 0 3 0 0 b 2 1 0 0 c" }, /* vsub2 with sat */
+    { "0 0", "7 3 0 0 1 0 1 1 d 11 a 0 1 2 3 b 4 5 6 7 c" },    /* vabsdiff4 with add */
+    { "2 4", "7 2 1 0 1 1 1 0 d 15 a 7 0 5 2 b 4 4 1 3 c" },    /* vavrg4, guarded */
 };
+
+enum { OLDER_BASES = 14 };      /* the others are of request T-01 */
 
 /* The base with its letters d, a, b, c changed to numbers. */
 static void base(const char *guarded, const Base *of, const unsigned dabc[4])
@@ -260,13 +276,13 @@ static void files_of_choices(void)
             }
 }
 
-/* every mask of vset2 and vset4, lanes that vset2 has not among them */
-static void masks(void)
+/* every mask, lanes that a form with 2 has not among them */
+static void masks(bool arithmetic, unsigned choice)
 {
     for (unsigned wide = 0; wide < 2; wide++)
         for (unsigned mask = 0; mask < 16; mask++) {
             unsigned lanes = wide ? 4 : 2;
-            begin("0 0 2 %u 0 0 0 0 3 %u 0", wide, mask);
+            begin("0 0 %s %u 0 0 0 3 %u 0", in_front(arithmetic, choice), wide, mask);
             rising(lanes, 0, 1);
             fputs(" 1", stdout);
             rising(lanes, lanes, 1);
@@ -276,12 +292,12 @@ static void masks(void)
 }
 
 /* a digit of a selector, in each lane of a or of b; the other operand has its default */
-static void lane_digit(unsigned wide, bool on_b, unsigned lane, unsigned digit)
+static void lane_digit(bool arithmetic, unsigned wide, bool on_b, unsigned lane, unsigned digit)
 {
     unsigned lanes = wide ? 4 : 2;
     unsigned sel[4] = { 0 };
     sel[lane] = digit;
-    begin("0 0 2 %u 3 0 1 0 3 %u 0", wide, wide ? 15 : 3);
+    begin("0 0 %s %u 0 1 0 3 %u 0", in_front(arithmetic, arithmetic ? turn : 3), wide, wide ? 15 : 3);
     if (on_b)
         rising(lanes, 0, 1);
     else
@@ -295,22 +311,22 @@ static void lane_digit(unsigned wide, bool on_b, unsigned lane, unsigned digit)
     end_and_run();
 }
 
-static void lane_digits(void)
+static void lane_digits(bool arithmetic)
 {
     static const unsigned great[] = { 10, 255 };
     for (unsigned at = 0; at < 2 * 2 * 4; at++) {
         for (unsigned digit = 0; digit < 10; digit++)
-            lane_digit(at / 8, at / 4 % 2, at % 4, digit);
+            lane_digit(arithmetic, at / 8, at / 4 % 2, at % 4, digit);
         for (unsigned i = 0; i < COUNT(great); i++)
-            lane_digit(at / 8, at / 4 % 2, at % 4, great[i]);
+            lane_digit(arithmetic, at / 8, at / 4 % 2, at % 4, great[i]);
     }
 }
 
-/* register numbers at each operand of each base, and at its guard */
-static void numbers(void)
+/* register numbers at each operand of each base from `from` to before `to`, and at its guard */
+static void numbers(unsigned from, unsigned to)
 {
     static const unsigned number[] = { 0, 15, 16, 31, 32, 63, 64, 100, 999 };
-    for (unsigned of = 0; of < COUNT(BASES); of++)
+    for (unsigned of = from; of < to; of++)
         for (unsigned role = 0; role < 5; role++)
             for (unsigned i = 0; i < COUNT(number); i++) {
                 unsigned dabc[4] = { 3, 5, 1, 2 };
@@ -352,7 +368,7 @@ static void mixed(void)
         "0 0 3 0 3 0 0 0 0 1 7 1 0 1 1",            /* ftz on f64 */
         "0 0 2 0 0 0 0 0 3 3 0 0 1 2 3 1 2 3 0 0 2",        /* vset2 with the digits of vset4 on a */
         "0 0 2 0 0 0 0 0 3 15 0 0 1 2 3 1 4 5 6 7 2",       /* vset4's default record as vset2 */
-        "0 0 2 1 0 0 0 0 3 3 0 0 1 0 0 1 2 3 0 0 2",        /* vset2's default record as vset4 */
+        "0 0 2 0 1 0 0 0 3 3 0 0 1 0 0 1 2 3 0 0 2",        /* vset2's default record as vset4 */
         "0 0 5 3 1 32 1 0 1 1 16",                  /* %rd32 and %p16 */
         "0 0 5 3 1 31 1 31 1 31 15",                /* the last of each file */
     };
@@ -395,14 +411,14 @@ static void selector_choice(unsigned lanes, unsigned choice)
         rising(lanes, turn, 2 * lanes - 1);
 }
 
-/* vset2 and vset4 by mask and by selectors of a and b */
-static void written_lanes(void)
+/* forms with 2 and 4 by mask and by selectors of a and b */
+static void written_lanes(bool arithmetic)
 {
     for (unsigned wide = 0; wide < 2; wide++) {
         unsigned lanes = wide ? 4 : 2;
         for (unsigned mask = 1; mask < 1u << lanes; mask++)
             for (unsigned choice = 0; choice < 9; choice++) {
-                begin("%s 2 %u %u %u %u %u %u %u %u", guard(), wide, turn % CMP6, turn / 2 % 2,
+                begin("%s %s %u %u %u %u %u %u %u", guard(), in_front(arithmetic, turn), wide, turn / 2 % 2,
                       turn / 4 % 2, turn / 5 % 2, word(0), mask, word(1));
                 selector_choice(lanes, choice % 3);
                 printf(" %u", word(2));
@@ -452,10 +468,10 @@ static void written_choices(void)
     }
 }
 
-/* the longest line: 68 bytes */
+/* the longest line of document 01: 68 bytes */
 static void longest(void)
 {
-    begin("2 15 2 1 5 1 0 1 63 14 62 7 7 7 7 61 0 0 0 0 60");
+    begin("2 15 2 5 1 1 0 1 63 14 62 7 7 7 7 61 0 0 0 0 60");
     end_and_run();
 }
 
@@ -465,11 +481,11 @@ static void longest(void)
 static void figures(void)
 {
     static const char *const figure[][2] = {
-        { "2 1 2 1 0 0 3 15 0 0 1 2 3 1 4 5 6 7 2", "r0=80FF0001 r1=2 r2=0" },         /* vset4.s32.u32.lt */
-        { "2 1 2 1 0 0 3 5 0 0 1 2 3 1 4 5 6 7 2", "r0=80FF0001 r1=2 r2=AABBCCDD" },   /* mask .b20 */
-        { "2 1 2 1 0 1 3 15 0 0 1 2 3 1 4 5 6 7 2", "r0=80FF0001 r1=2 r2=FFFFFFFF" },  /* add */
-        { "2 0 5 0 0 0 3 3 0 0 1 0 0 1 2 3 0 0 2", "r0=10002 r1=20002 r2=0" },         /* vset2.u32.u32.ge */
-        { "2 0 5 0 0 0 3 3 0 1 0 0 0 1 2 3 0 0 2", "r0=10002 r1=20002 r2=0" },         /* a .h01 */
+        { "2 2 1 1 0 0 3 15 0 0 1 2 3 1 4 5 6 7 2", "r0=80FF0001 r1=2 r2=0" },         /* vset4.s32.u32.lt */
+        { "2 2 1 1 0 0 3 5 0 0 1 2 3 1 4 5 6 7 2", "r0=80FF0001 r1=2 r2=AABBCCDD" },   /* mask .b20 */
+        { "2 2 1 1 0 1 3 15 0 0 1 2 3 1 4 5 6 7 2", "r0=80FF0001 r1=2 r2=FFFFFFFF" },  /* add */
+        { "2 5 0 0 0 0 3 3 0 0 1 0 0 1 2 3 0 0 2", "r0=10002 r1=20002 r2=0" },         /* vset2.u32.u32.ge */
+        { "2 5 0 0 0 0 3 3 0 1 0 0 0 1 2 3 0 0 2", "r0=10002 r1=20002 r2=0" },         /* a .h01 */
         { "0 0 1 0 1 1 0 3 0 0 6 0 6 1", "r0=7FFFFFFF r1=1" },                         /* vadd all s32 */
         { "0 0 1 1 1 1 0 3 0 0 6 0 6 1", "r0=7FFFFFFF r1=1" },                         /* sat */
         { "0 1 0 0 0 0 0 3 0 0 6 0 6 1", "r0=1 r1=2" },                                /* vsub all u32 */
@@ -610,7 +626,7 @@ static void lane_runs(void)
     for (unsigned row = 0; row < 48; row++)
         for (unsigned k = 0; k < 30; k++) {
             unsigned lanes = row < 24 ? 2 : 4;
-            begin("0 0 2 %u %u %u %u %u 3 %u 0", row / 24, row / 4 % CMP6, row % 2, row / 2 % 2, k % 2,
+            begin("0 0 2 %u %u %u %u %u 3 %u 0", row / 4 % CMP6, row / 24, row % 2, row / 2 % 2, k % 2,
                   lanes == 2 ? k % 3 + 1 : k % 15 + 1);
             rising(lanes, k, 1);
             fputs(" 1", stdout);
@@ -655,18 +671,23 @@ static void selp_runs(void)
 }
 
 /* each base with each guard, whose predicate is 0, 1 and 2 */
-static void guards(void)
+static void guards(unsigned from, unsigned to)
 {
     static const uint64_t guard_values[] = { 0, 1, 2 };
     static const char *const guarded[] = { "0 0", "1 6", "2 6" };
     static const unsigned dabc[4] = { 3, 5, 1, 2 };
     values(guard_values, COUNT(guard_values));
-    for (unsigned of = 0; of < COUNT(BASES); of++)
+    for (unsigned of = from; of < to; of++)
         for (unsigned i = 0; i < COUNT(guarded); i++) {
             base(guarded[i], &BASES[of], dabc);
             run(1, "p6");
             run(1, "p6 p3=1");
         }
+}
+
+/* set guarded by %p0 */
+static void set_guards(void)
+{
     for (unsigned form = 0; form < 3; form++) {
         begin("%u 0 3 0 3 0 0 0 0", form);
         usual_sources(0, B32);
@@ -676,12 +697,12 @@ static void guards(void)
 }
 
 /* a destination that is also a source: sources are read first */
-static void same_registers(void)
+static void same_registers(unsigned from, unsigned to)
 {
     static const unsigned dabc[][4] = {
         { 1, 1, 2, 3 }, { 1, 2, 1, 3 }, { 1, 2, 3, 1 }, { 1, 1, 1, 2 }, { 1, 1, 1, 1 }, { 2, 1, 1, 1 }
     };
-    for (unsigned of = 0; of < COUNT(BASES); of++)
+    for (unsigned of = from; of < to; of++)
         for (unsigned i = 0; i < COUNT(dabc); i++) {
             base("0 0", &BASES[of], dabc[i]);
             run(0, "");
@@ -691,7 +712,7 @@ static void same_registers(void)
 }
 
 /* files of wrong lengths and predicate bytes over 1, on records that run, that are skipped and that are not legal */
-static void files(void)
+static void files(unsigned from, unsigned to)
 {
     static const char *const wrong[] = {
         "R63", "R65", "D31", "D33", "P15", "P17", "R0", "D0", "P0", "R0 D0 P0", "R65 D33 P17",
@@ -699,7 +720,7 @@ static void files(void)
         "R63 p2=2", "D33 p9=FF", "P15 p6=2", "P15 p15=2", "P17 p16=2", "P17 p0=FF", "P0 p0=2", "p16=2"
     };
     static const char *const guarded[] = { "0 0", "1 6", "2 6", "1 16" };
-    for (unsigned of = 0; of < COUNT(BASES); of++)
+    for (unsigned of = from; of < to; of++)
         for (unsigned i = 0; i < COUNT(guarded) + 1; i++) {
             const unsigned dabc[4] = { 3, i < COUNT(guarded) ? 5 : 64, 1, 2 };
             base(guarded[i % COUNT(guarded)], &BASES[of], dabc);
@@ -707,6 +728,145 @@ static void files(void)
             for (unsigned k = 0; k < COUNT(wrong); k++)
                 run(0, "%s", wrong[k]);
         }
+}
+
+/* ---- request T-01: what is of no other record ---- */
+
+/* two faults at a time, and the record of one width as the other */
+static void mixed_lanes(void)
+{
+    static const char *const fields[] = {
+        "0 0 7 0 0 0 0 0 0 0 3 15 0 0 1 2 3 1 4 5 6 7 2",       /* vadd4's default record as vadd2 */
+        "0 0 7 0 0 0 1 0 0 0 3 3 0 0 1 0 0 1 2 3 0 0 2",        /* vadd2's default record as vadd4 */
+        "0 0 7 2 1 1 0 1 1 1 3 3 0 0 1 2 3 1 2 3 0 0 2",        /* vavrg2 with the digits of vavrg4 on a */
+        "0 0 7 5 0 1 0 0 1 1 3 0 0 4 1 0 0 1 2 3 0 0 2",        /* no lane, and a digit too high */
+        "1 16 7 4 0 0 1 0 0 0 64 15 0 0 1 2 3 1 4 5 6 7 2",     /* guard and d */
+        "2 15 7 3 1 1 1 1 1 1 63 8 63 7 7 7 7 63 0 0 0 0 63",   /* the last of each file */
+        "0 0 7 1 1 0 0 0 1 0 999 12 999 3 3 0 0 999 0 0 0 0 999",   /* every number, and lanes that are not there */
+    };
+    for (unsigned i = 0; i < COUNT(fields); i++) {
+        begin("%s", fields[i]);
+        end_and_run();
+    }
+}
+
+/* The head of number `at`, 0 to 383, up to its operands: operation, width, dtype, sat, atype, btype, add. */
+enum { HEADS = OPS * 64 };
+
+static void arithmetic_head(const char *guarded, unsigned at)
+{
+    begin("%s 7 %u %u %u %u %u %u %u", guarded, at / 64, at >> 3 & 1, at >> 4 & 1, at >> 5 & 1,
+          at >> 2 & 1, at >> 1 & 1, at & 1);
+}
+
+static unsigned lanes_of_head(unsigned at) { return at >> 5 & 1 ? 4 : 2; }
+
+/* every head; masks, selectors and registers in turn */
+static void written_heads(void)
+{
+    for (unsigned at = 0; at < HEADS; at++) {
+        unsigned lanes = lanes_of_head(at);
+        arithmetic_head(guard(), at);
+        printf(" %u %u %u", word(0), 1 + turn % ((1u << lanes) - 1), word(1));
+        selector_choice(lanes, turn / 2 % 3);
+        printf(" %u", word(2));
+        selector_choice(lanes, turn / 7 % 3);
+        printf(" %u", word(3));
+        end_and_run();
+    }
+}
+
+/* the longest line, 77 bytes, and one of 76 */
+static void longest_of_all(void)
+{
+    begin("2 15 7 3 1 1 1 1 1 1 63 14 62 7 7 7 7 61 0 0 0 0 60");
+    end_and_run();
+    begin("1 15 7 3 0 1 1 0 0 1 63 14 62 7 7 7 7 61 0 0 0 0 60");
+    end_and_run();
+}
+
+/* d is %r3, a %r0, b %r1, c %r2; a's and b's digits rise by 1 from there. */
+static void usual_lanes(unsigned lanes, unsigned mask, unsigned a_first, unsigned b_first)
+{
+    printf(" 3 %u 0", mask);
+    rising(lanes, a_first, 1);
+    fputs(" 1", stdout);
+    rising(lanes, b_first, 1);
+    fputs(" 2", stdout);
+    end();
+}
+
+static const char *const C_WORDS[] = { "AABBCCDD", "FFFFFFFF", "0", "7FFFFFFE", "80000001" };
+
+/* every head of a width on all pairs of special parts, in every lane */
+static void lane_pairs(unsigned wide)
+{
+    static const uint64_t bytes[] = { 0x0001807F, 0x017FFF80, 0x7F80FEFF, 0x80FF81FE, 0xFFFE0081, 0xFE810100, 0x81007F01 };
+    static const uint64_t halves[] = { 0x00000001, 0x00017FFF, 0x7FFF8000, 0x8000FFFF, 0xFFFFFFFE, 0xFFFE8001, 0x80010000, 0x00FFFF00 };
+    if (wide)
+        values(bytes, COUNT(bytes));
+    else
+        values(halves, COUNT(halves));
+    for (unsigned at = 0; at < HEADS; at++) {
+        unsigned lanes = lanes_of_head(at);
+        if (lanes != (wide ? 4 : 2))
+            continue;
+        arithmetic_head("0 0", at);
+        usual_lanes(lanes, (1u << lanes) - 1, 0, lanes);
+        run(2, "r0 r1 r2=%s", C_WORDS[turn % COUNT(C_WORDS)]);
+    }
+}
+
+static const uint64_t LANE_WORDS[] = { 0x807F01FF, 0xFF80FE00, 0x12F385C4 };
+
+/* every mask by operation and add; types and sat in turn */
+static void lane_masks(void)
+{
+    values(LANE_WORDS, COUNT(LANE_WORDS));
+    for (unsigned at = 0; at < 2 * 2 * OPS; at++) {
+        unsigned lanes = at & 1 ? 4 : 2;
+        for (unsigned mask = 1; mask < 1u << lanes; mask++) {
+            unsigned in_turn = turn / 3;
+            begin("0 0 7 %u %u %u %u %u %u %u", at / 4, in_turn & 1, in_turn >> 1 & 1, at & 1,
+                  in_turn >> 2 & 1, in_turn >> 3 & 1, at >> 1 & 1);
+            usual_lanes(lanes, mask, 0, lanes);
+            run(1, "r0 r1=7FFF80FE r2=AABBCCDD");
+        }
+    }
+}
+
+/* every digit by lane and operand, by operation; no two parts of the registers are alike */
+static void lane_selectors(void)
+{
+    values(LANE_WORDS, COUNT(LANE_WORDS));
+    for (unsigned at = 0; at < 2 * OPS; at++) {
+        unsigned lanes = at & 1 ? 4 : 2, full = (1u << lanes) - 1;
+        for (unsigned k = 0; k < 12; k++) {
+            unsigned in_turn = turn / 2;
+            begin("0 0 7 %u %u %u %u %u %u %u 3 %u 0", at / 2, in_turn & 1, in_turn >> 1 & 1, at & 1,
+                  k & 1, k >> 1 & 1, in_turn >> 2 & 1, k % 3 == 0 ? full : 1 + turn % full);
+            rising(lanes, k, k < 8 ? 1 : 2 * lanes - 1);
+            fputs(" 1", stdout);
+            rising(lanes, 5 * k + 3, k % 3 + 1);
+            fputs(" 2", stdout);
+            end();
+            run(1, "r0 r1=A97D06E8 r2=%s", C_WORDS[turn % COUNT(C_WORDS)]);
+        }
+    }
+}
+
+/* add, by operation and width, to words around which the sum goes past 2^32 either way */
+static void lane_carries(void)
+{
+    static const uint64_t around[] = { 0, 1, 0xFFFFFFFF, 0x7FFFFFFF, 0x80000000, 0xFFFFFE00, 0x00010000 };
+    values(around, COUNT(around));
+    for (unsigned at = 0; at < 2 * 8 * OPS; at++) {
+        unsigned lanes = at & 1 ? 4 : 2, types = at >> 1 & 7;
+        begin("0 0 7 %u %u %u %u %u %u 1", at / 16, types & 1, turn & 1, at & 1, types >> 1 & 1, types >> 2);
+        usual_lanes(lanes, (1u << lanes) - 1, 0, lanes);
+        run(1, "r0=FF80807F r1=FFFFFF80 r2");
+        run(1, "r0=80008080 r1=7FFF7F7F r2");
+    }
 }
 
 /* ---- all of it ---- */
@@ -717,9 +877,9 @@ static void legality(void)
     legality_of_comparisons();
     files_of_comparisons();
     files_of_choices();
-    masks();
-    lane_digits();
-    numbers();
+    masks(false, 0);
+    lane_digits(false);
+    numbers(0, OLDER_BASES);
     places();
     mixed();
 }
@@ -729,7 +889,7 @@ static void written(void)
     section = WRITTEN;
     written_scalars();
     written_vsets();
-    written_lanes();
+    written_lanes(false);
     written_comparisons(false);
     written_comparisons(true);
     written_choices();
@@ -748,9 +908,34 @@ static void executed(void)
     lane_runs();
     slct_runs();
     selp_runs();
-    guards();
-    same_registers();
-    files();
+    guards(0, OLDER_BASES);
+    set_guards();
+    same_registers(0, OLDER_BASES);
+    files(0, OLDER_BASES);
+}
+
+/* request T-01, behind all the older records, which so stay as they were */
+static void arithmetic_by_lanes(void)
+{
+    section = LEGALITY;
+    for (unsigned op = 0; op < OPS; op++)
+        masks(true, op);
+    lane_digits(true);
+    numbers(OLDER_BASES, COUNT(BASES));
+    mixed_lanes();
+    section = WRITTEN;
+    written_heads();
+    written_lanes(true);
+    longest_of_all();
+    section = EXECUTED;
+    lane_pairs(0);
+    lane_pairs(1);
+    lane_masks();
+    lane_selectors();
+    lane_carries();
+    guards(OLDER_BASES, COUNT(BASES));
+    same_registers(OLDER_BASES, COUNT(BASES));
+    files(OLDER_BASES, COUNT(BASES));
 }
 
 int main(int argc, char **argv)
@@ -763,6 +948,7 @@ int main(int argc, char **argv)
     legality();
     written();
     executed();
+    arithmetic_by_lanes();
     if (fflush(stdout) != 0 || ferror(stdout))
         return 1;
     if (count)

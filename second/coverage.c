@@ -107,6 +107,10 @@ static const char *const faults[] = { "negated", "pair", "%r", "%rd", "%p", "sel
 static const char *const roles[] = { "d", "a", "b", "c", "guard", "second" };
 
 static bool is_scalar(Word op) { return op >= W_VADD && op <= W_VSET; }
+static bool is_lane_arithmetic(int op) { return is_simd((Word)op) && !is_vset((Word)op); }
+
+/* The operation of a form with 4 is that of the form with 2. */
+static Word with_2(Word op) { return lanes_of(op) == 4 ? (Word)(op - W_VSET4 + W_VSET2) : op; }
 
 /* ---- what can occur, from document 01 ---- */
 
@@ -123,7 +127,7 @@ static void declare_heads(void)
                             kind("head: %s.%s.%s.%s%s%s", spelling[op], spelling[d], spelling[a], spelling[b], sat ? ".sat" : "", op2s[o]);
                 for (int op = W_VSET; op <= W_VSET4; op++)
                     for (int cmp = W_EQ; cmp <= W_GE; cmp++)
-                        if (op == W_VSET || o < 2)
+                        if (is_vset((Word)op) && (op == W_VSET || o < 2))
                             kind("head: %s.%s.%s.%s%s", spelling[op], spelling[d], spelling[a], spelling[cmp], op2s[o]);
             }
     for (int s = W_U32; s <= W_F64; s++) {
@@ -174,7 +178,7 @@ static void declare_values(void)
         }
     }
     for (int op = W_VSET; op <= W_VSET4; op++)
-        for (int a = W_U32; a <= W_S32; a++)
+        for (int a = W_U32; a <= W_S32 && is_vset((Word)op); a++)
             for (int b = W_U32; b <= W_S32; b++)
                 for (int cmp = W_EQ; cmp <= W_GE; cmp++)
                     for (unsigned o = LESS; o <= GREATER; o *= 2)
@@ -223,24 +227,27 @@ static void declare_operands(void)
             for (int role = 0; role < 3; role++)
                 kind("selector: %s %s %s", spelling[op], roles[role], part_names[p]);
     }
-    for (int lanes = 2; lanes <= 4; lanes += 2) {
+    for (int op = W_VSET2; op <= W_VMAX4; op++) {
+        int lanes = (int)lanes_of((Word)op);
         for (int add = 0; add < 2; add++)
             for (int mask = 1; mask < 1 << lanes; mask++) {
-                kind("mask: vset%d%s %X", lanes, add ? " add" : "", mask);
+                kind("mask: %s%s %X", spelling[op], add ? " add" : "", mask);
                 if (mask == (1 << lanes) - 1)
-                    kind("mask: vset%d%s full, written", lanes, add ? " add" : "");
+                    kind("mask: %s%s full, written", spelling[op], add ? " add" : "");
             }
-        for (int named = 1; named <= lanes; named++)
-            for (int hold = 0; hold <= named; hold++)
-                kind("lanes: vset%d add, %d of %d hold", lanes, hold, named);
-        kind("lanes: vset%d add past 2^32", lanes);
         for (int role = 1; role < 3; role++) {
-            kind("lane selector: vset%d %s bare", lanes, roles[role]);
-            kind("lane selector: vset%d %s default, written", lanes, roles[role]);
+            kind("lane selector: %s %s bare", spelling[op], roles[role]);
+            kind("lane selector: %s %s default, written", spelling[op], roles[role]);
             for (int lane = 0; lane < lanes; lane++)
                 for (int part = 0; part < 2 * lanes; part++)
-                    kind("lane selector: vset%d %s lane %d part %d", lanes, roles[role], lane, part);
+                    kind("lane selector: %s %s lane %d part %d", spelling[op], roles[role], lane, part);
         }
+        if (!is_vset((Word)op))
+            continue;
+        for (int named = 1; named <= lanes; named++)
+            for (int hold = 0; hold <= named; hold++)
+                kind("lanes: %s add, %d of %d hold", spelling[op], hold, named);
+        kind("lanes: %s add past 2^32", spelling[op]);
     }
     for (int kinds_of = 0; kinds_of < 4; kinds_of++) {
         kind("setp places: %s", place_kinds[kinds_of]);
@@ -261,7 +268,7 @@ static void declare_operands(void)
             kind("same register: %s d and a", spelling[op]);
             kind("same register: %s d and b", spelling[op]);
         }
-        if (op <= W_VSET4 || op == W_SLCT)
+        if (op <= W_VMAX4 || op == W_SLCT)
             kind("same register: %s d and c", spelling[op]);
     }
     for (int role = 0; role < 6; role++) {
@@ -278,9 +285,137 @@ static void declare_operands(void)
 /* Whether an operand of that file, bare, is never at fault there. */
 static bool is_right(int op, int role, int fault)
 {
-    bool video = op <= W_VSET4;
+    bool video = op <= W_VMAX4;
     return (fault == 2 && ((video && (role > 0 || op >= W_VSET2)) || (op == W_SET && role == 0) || (op == W_SLCT && role == 3))) ||
            (fault == 4 && ((op == W_SETP && role == 0) || (op >= W_SET && op <= W_SELP && role == 3)));
+}
+
+/* ---- what can occur, from request T-01 ---- */
+
+static const char *const result_kinds[] = { "under the lane", "negative", "of either sign", "unsigned alone", "over the lane" };
+
+/* Where an exact result stands to the numbers of a lane. */
+static unsigned result_kind(int64_t n, unsigned width)
+{
+    int64_t half = INT64_C(1) << (width - 1);
+    return n < -half ? 0 : n < 0 ? 1 : n < half ? 2 : n < 2 * half ? 3 : 4;
+}
+
+/* Whether some two parts give the operation such a result. */
+static bool can_result(Word op, unsigned result)
+{
+    switch (with_2(op)) {
+    case W_VADD2: case W_VSUB2: return true;
+    case W_VABSDIFF2:           return result > 1;
+    default:                    return result > 0 && result < 4;
+    }
+}
+
+static bool can_clamp(Word op, Word dtype, bool above)
+{
+    if (above)
+        return can_result(op, dtype == W_S32 ? 3 : 4);
+    return can_result(op, dtype == W_S32 ? 0 : 1);
+}
+
+static const char *const sums[] = { "negative odd", "negative even", "zero", "positive odd", "positive even" };
+
+static unsigned sum_kind(int64_t n) { return n == 0 ? 2 : (n < 0 ? 0 : 3) + (n % 2 == 0); }
+
+static const char *const wrong_lists[] = {
+    "two types", "two types and more", "add before sat", "min", "max", "a comparison for a type", "a comparison behind the types",
+    "sat twice", "add twice", "four types", "sat among the types", "another type"
+};
+static const char *const wrong_masks[] = { "a digit twice", "digits rising", "a digit too high", "no digit", "another letter", "too long" };
+static const char *const wrong_selectors[] = { "too short", "too long", "a digit too high", "another letter" };
+static const char *const near_opcodes[] = {
+    "vavrg", "vadd3", "vsub1", "vavrg3", "vabsdiff3", "vabsdiff22", "vmin8", "vmax44", "varvg2", "varvg4"
+};
+
+#define EACH(i, list) (unsigned i = 0; i < sizeof (list) / sizeof (list)[0]; i++)
+
+static void declare_lane_heads(Word op)
+{
+    for (int types = 0; types < 8; types++)
+        for (int sat = 0; sat < 2; sat++)
+            for (int add = 0; add < 2; add++)
+                kind("head: %s.%s.%s.%s%s%s", spelling[op], spelling[W_U32 + (types & 1)], spelling[W_U32 + (types >> 1 & 1)],
+                     spelling[W_U32 + (types >> 2)], sat ? ".sat" : "", add ? ".add" : "");
+}
+
+static void declare_lane_values(Word op)
+{
+    const char *name = spelling[op];
+    for EACH(x, edges) {
+        for EACH(y, edges)
+            kind("lane pair: %s %s %s", name, edges[x], edges[y]);
+        for (int t = W_U32; t <= W_S32; t++) {
+            kind("lane value: %s a %s %s", name, spelling[t], edges[x]);
+            kind("lane value: %s b %s %s", name, spelling[t], edges[x]);
+        }
+    }
+    for (int add = 0; add < 2; add++) {
+        const char *with = add ? " add" : "";
+        for EACH(i, result_kinds)
+            if (can_result(op, i))
+                kind("lane result: %s%s %s", name, with, result_kinds[i]);
+        for (int t = W_U32; t <= W_S32; t++) {
+            kind("lane sat: %s.%s%s within", name, spelling[t], with);
+            if (can_clamp(op, (Word)t, false))
+                kind("lane sat: %s.%s%s below", name, spelling[t], with);
+            if (can_clamp(op, (Word)t, true))
+                kind("lane sat: %s.%s%s above", name, spelling[t], with);
+        }
+        for EACH(i, sums)
+            if (with_2(op) == W_VAVRG2)
+                kind("average: %s%s %s", name, with, sums[i]);
+        for (unsigned lane = 0; lane < lanes_of(op); lane++)
+            kind("unmasked: %s%s lane %u", name, with, lane);
+    }
+    kind("lane sum: %s past 2^32", name);
+    kind("lane sum: %s within", name);
+    if (can_result(op, 1))
+        kind("lane sum: %s below 0", name);
+    for (int t = W_U32; t <= W_S32; t++) {
+        kind("part of the other register: %s a %s", name, spelling[t]);
+        kind("part of the other register: %s b %s", name, spelling[t]);
+    }
+}
+
+static void declare_lane_refusals(Word op)
+{
+    const char *name = spelling[op];
+    for EACH(i, wrong_lists)
+        kind("wrong list: %s %s", name, wrong_lists[i]);
+    for EACH(i, wrong_masks)
+        kind("wrong mask: %s %s", name, wrong_masks[i]);
+    for EACH(i, wrong_selectors) {
+        kind("wrong selector: %s a %s", name, wrong_selectors[i]);
+        kind("wrong selector: %s b %s", name, wrong_selectors[i]);
+    }
+    for (unsigned role = 0; role < 4; role++)
+        kind("lane refused 6: %s %%r64 as %s", name, roles[role]);
+    kind("lane refused 6: %s %%p16 as guard", name);
+}
+
+static void declare_lane_arithmetic(void)
+{
+    for (int op = W_VSET2; op <= W_VMAX4; op++) {
+        if (!is_lane_arithmetic(op))
+            continue;
+        declare_lane_heads((Word)op);
+        declare_lane_values((Word)op);
+        declare_lane_refusals((Word)op);
+    }
+    for (unsigned lanes = 2; lanes <= 4; lanes += 2) {
+        for (unsigned role = 0; role < 4; role++)
+            for (unsigned n = 0; n < R_COUNT; n++)
+                kind("lane number: with %u %%r%u as %s", lanes, n, roles[role]);
+        for (unsigned n = 0; n < P_COUNT; n++)
+            kind("lane number: with %u %%p%u as guard", lanes, n);
+    }
+    for EACH(i, near_opcodes)
+        kind("refused 3: %s", near_opcodes[i]);
 }
 
 static void declare_lines(void)
@@ -377,39 +512,116 @@ static void count_scalar(const Machine *m, const Record *rec)
         hit("OP2: %s.%s %s keeps %s", op, spelling[rec->dtype], spelling[rec->second], (rec->second == W_MIN ? c < n : c > n) ? "c" : "the result");
 }
 
-static void count_lanes(const Machine *m, const Record *rec, const Line *line)
+/* The part of number `part` of a register pair. */
+static uint32_t part_of(uint64_t parts, unsigned part, unsigned width)
 {
-    unsigned lanes = rec->op == W_VSET2 ? 2 : 4, width = 32 / lanes, named = 0, hold = 0;
-    bool add = rec->second == W_ADD;
-    uint64_t parts = (uint64_t)m->r[rec->b] << 32 | m->r[rec->a];
+    return (uint32_t)(parts >> width * part) & low_bits(width);
+}
+
+static void count_mask_and_selectors(const Record *rec, const Line *line)
+{
+    const char *op = spelling[rec->op];
+    unsigned lanes = lanes_of(rec->op);
+    const char *add = rec->second == W_ADD ? " add" : "";
     if (line->operand[0].selector != 0 && rec->mask == (1u << lanes) - 1)
-        hit("mask: vset%u%s full, written", lanes, add ? " add" : "");
+        hit("mask: %s%s full, written", op, add);
     else
-        hit("mask: vset%u%s %X", lanes, add ? " add" : "", rec->mask);
+        hit("mask: %s%s %X", op, add, rec->mask);
     for (unsigned role = 1; role < 3; role++) {
         const Operand *o = &line->operand[role];
         if (o->selector == 0)
-            hit("lane selector: vset%u %s bare", lanes, roles[role]);
+            hit("lane selector: %s %s bare", op, roles[role]);
         else if (o->text.length == o->bare)
-            hit("lane selector: vset%u %s default, written", lanes, roles[role]);
+            hit("lane selector: %s %s default, written", op, roles[role]);
         else
             for (unsigned i = 0; i < lanes; i++)
-                hit("lane selector: vset%u %s lane %u part %u", lanes, roles[role], i, (role == 1 ? rec->asel : rec->bsel)[i]);
+                hit("lane selector: %s %s lane %u part %u", op, roles[role], i, (role == 1 ? rec->asel : rec->bsel)[i]);
     }
+}
+
+static void count_lane_comparison(const Machine *m, const Record *rec)
+{
+    unsigned lanes = lanes_of(rec->op), width = 32 / lanes, named = 0, hold = 0;
+    uint64_t parts = (uint64_t)m->r[rec->b] << 32 | m->r[rec->a];
     for (unsigned i = 0; i < lanes; i++) {
         if ((rec->mask >> i & 1) == 0)
             continue;
-        unsigned order = order_signed(number_of((uint32_t)(parts >> width * rec->asel[i]) & low_bits(width), width, rec->atype),
-                                      number_of((uint32_t)(parts >> width * rec->bsel[i]) & low_bits(width), width, rec->btype));
+        unsigned order = order_signed(number_of(part_of(parts, rec->asel[i], width), width, rec->atype),
+                                      number_of(part_of(parts, rec->bsel[i], width), width, rec->btype));
         hit("video order: vset%u.%s.%s.%s %s", lanes, spelling[rec->atype], spelling[rec->btype], spelling[rec->cmp], order_name(order));
         named++;
         hold += (order & accepts[rec->cmp]) != 0;
     }
-    if (add) {
+    if (rec->second == W_ADD) {
         hit("lanes: vset%u add, %u of %u hold", lanes, hold, named);
         if (m->r[rec->c] + hold < m->r[rec->c])
             hit("lanes: vset%u add past 2^32", lanes);
     }
+}
+
+/* A masked lane with the parts x and y and the exact result n. */
+static void count_lane_result(const Record *rec, uint32_t x, uint32_t y, int64_t n)
+{
+    const char *op = spelling[rec->op];
+    const char *add = rec->second == W_ADD ? " add" : "";
+    unsigned width = 32 / lanes_of(rec->op);
+    hit("lane pair: %s %s %s", op, edge(x, width), edge(y, width));
+    hit("lane value: %s a %s %s", op, spelling[rec->atype], edge(x, width));
+    hit("lane value: %s b %s %s", op, spelling[rec->btype], edge(y, width));
+    if (with_2(rec->op) == W_VAVRG2)
+        hit("average: %s%s %s", op, add, sums[sum_kind(number_of(x, width, rec->atype) + number_of(y, width, rec->btype))]);
+    if (rec->sat) {
+        int64_t in = clamp(n, rec->dtype, width);
+        hit("lane sat: %s.%s%s %s", op, spelling[rec->dtype], add, in > n ? "below" : in < n ? "above" : "within");
+    } else {
+        hit("lane result: %s%s %s", op, add, result_kinds[result_kind(n, width)]);
+    }
+}
+
+/* Parts with the sign bit set that an operand takes from the other one's register: its type alone says what they are. */
+static void count_other_register(const Record *rec, unsigned lane, uint32_t x, uint32_t y)
+{
+    unsigned lanes = lanes_of(rec->op), width = 32 / lanes;
+    if (rec->atype == rec->btype)
+        return;
+    if (rec->asel[lane] >= lanes && x >> (width - 1) != 0)
+        hit("part of the other register: %s a %s", spelling[rec->op], spelling[rec->atype]);
+    if (rec->bsel[lane] < lanes && y >> (width - 1) != 0)
+        hit("part of the other register: %s b %s", spelling[rec->op], spelling[rec->btype]);
+}
+
+static void count_lane_arithmetic(const Machine *m, const Record *rec)
+{
+    const char *op = spelling[rec->op];
+    unsigned lanes = lanes_of(rec->op), width = 32 / lanes;
+    uint64_t parts = (uint64_t)m->r[rec->b] << 32 | m->r[rec->a];
+    bool add = rec->second == W_ADD;
+    int64_t sum = m->r[rec->c];
+    Record exact = *rec;
+    exact.sat = false;
+    for (unsigned i = 0; i < lanes; i++) {
+        uint32_t x = part_of(parts, rec->asel[i], width), y = part_of(parts, rec->bsel[i], width);
+        int64_t n = video_result(&exact, number_of(x, width, rec->atype), number_of(y, width, rec->btype), width);
+        uint32_t kept = part_of(m->r[rec->c], i, width);
+        if ((rec->mask >> i & 1) != 0) {
+            count_lane_result(rec, x, y, n);
+            count_other_register(rec, i, x, y);
+            sum += rec->sat ? clamp(n, rec->dtype, width) : n;
+        } else if (add ? n != 0 : kept != part_of(m->r[rec->b], i, width) && kept != ((uint32_t)n & low_bits(width))) {
+            hit("unmasked: %s%s lane %u", op, add ? " add" : "", i);    /* what it must not do would show */
+        }
+    }
+    if (add)
+        hit("lane sum: %s %s", op, sum < 0 ? "below 0" : sum > UINT32_MAX ? "past 2^32" : "within");
+}
+
+static void count_lanes(const Machine *m, const Record *rec, const Line *line)
+{
+    count_mask_and_selectors(rec, line);
+    if (is_vset(rec->op))
+        count_lane_comparison(m, rec);
+    else
+        count_lane_arithmetic(m, rec);
 }
 
 static void count_comparison(const Machine *m, const Record *rec, const Line *line)
@@ -459,13 +671,19 @@ static void count_registers(const Line *line, const Record *rec)
         if (o->form == PAIR && o->second.file != SINK)
             hit("number: %%p%u as second", o->second.number);
     }
+    if (is_lane_arithmetic(rec->op)) {
+        for (unsigned i = 0; i < 4; i++)
+            hit("lane number: with %u %%r%u as %s", lanes_of(rec->op), line->operand[i].first.number, roles[i]);
+        if (line->guarded)
+            hit("lane number: with %u %%p%u as guard", lanes_of(rec->op), line->guard.number);
+    }
     if (rec->a == rec->b)
         hit("same register: %s a and b", spelling[rec->op]);
     if (rec->op != W_SETP && rec->d == rec->a)
         hit("same register: %s d and a", spelling[rec->op]);
     if (rec->op != W_SETP && rec->d == rec->b)
         hit("same register: %s d and b", spelling[rec->op]);
-    if (line->operands == 4 && rec->d == rec->c && (rec->op <= W_VSET4 || (rec->op == W_SLCT && !is_wide(rec->dtype))))
+    if (line->operands == 4 && rec->d == rec->c && (rec->op <= W_VMAX4 || (rec->op == W_SLCT && !is_wide(rec->dtype))))
         hit("same register: %s d and c", spelling[rec->op]);
 }
 
@@ -484,7 +702,7 @@ static void count_accepted(const Machine *m, const Line *line, const Record *rec
     hit("head: %.*s", (int)line->head.length, (const char *)line->head.at);
     if (is_scalar(rec->op))
         count_scalar(m, rec);
-    else if (rec->op == W_VSET2 || rec->op == W_VSET4)
+    else if (is_simd(rec->op))
         count_lanes(m, rec, line);
     else if (rec->op == W_SET || rec->op == W_SETP)
         count_comparison(m, rec, line);
@@ -557,6 +775,123 @@ static void count_wrong_operands(const Line *line, const Record *rec)
         if (rec->op == W_SETP && o->form == PAIR && o->first.file == SINK && o->second.file == SINK)
             hit("refused 5: setp _|_");
         hit("refused 5: %s %s is %s", op, roles[i], faults[o->form == NEGATED ? 0 : o->form == PAIR ? 1 : o->selector != 0 ? 5 : 2 + (unsigned)o->first.file]);
+    }
+}
+
+/* ---- refused lines of request T-01: in which way ---- */
+
+static unsigned types_from(const Word *m)
+{
+    unsigned n = 0;
+    while (n < NAMES_KEPT - 1 && is_video_type(m[n]))
+        n++;
+    return n;
+}
+
+static void count_wrong_list(const Line *line)
+{
+    const char *op = spelling[line->name[0]];
+    if (line->names < 2 || line->names > NAMES_KEPT)
+        return;
+    const Word *m = line->name + 1;
+    unsigned n = line->names - 1, types = types_from(m);
+    bool sat = types == 3 && m[3] == W_SAT;
+    const Word *last = m + types + sat;         /* behind the types and `sat` */
+    unsigned rest = n - types - sat;
+    if (types == 2 && n == 2)
+        hit("wrong list: %s two types", op);
+    else if (types == 2 && n == 3 && (m[2] == W_SAT || m[2] == W_ADD))
+        hit("wrong list: %s two types and more", op);
+    else if (types == 2 && is_cmp6(m[2]) && (n == 3 || (n == 4 && m[3] == W_ADD)))
+        hit("wrong list: %s a comparison for a type", op);
+    else if (types == 3 && n == 5 && m[3] == W_ADD && m[4] == W_SAT)
+        hit("wrong list: %s add before sat", op);
+    else if (types == 3 && rest == 1 && (*last == W_MIN || *last == W_MAX))
+        hit("wrong list: %s %s", op, spelling[*last]);
+    else if (types == 3 && rest == 1 && is_cmp6(*last))
+        hit("wrong list: %s a comparison behind the types", op);
+    else if (types == 3 && rest == 1 && *last == W_SAT)
+        hit("wrong list: %s sat twice", op);
+    else if (types == 3 && rest == 2 && last[0] == W_ADD && last[1] == W_ADD)
+        hit("wrong list: %s add twice", op);
+    else if (types == 4 && n == 4)
+        hit("wrong list: %s four types", op);
+    else if (n == 4 && types < 3 && m[types] == W_SAT && types_from(m + types + 1) == 3 - types)
+        hit("wrong list: %s sat among the types", op);
+    else if (n == 3 && types < 3 && (is_type(m[types]) || m[types] == W_OTHER) && types_from(m + types + 1) == 2 - types)
+        hit("wrong list: %s another type", op);
+}
+
+static unsigned key_length(Key key)
+{
+    unsigned length = 0;
+    for (; key != 0; key >>= 8)
+        length++;
+    return length;
+}
+
+/* What is wrong with a mask, by its bytes. */
+static void count_wrong_mask(const char *op, Key key, unsigned lanes)
+{
+    unsigned length = key_length(key);
+    bool rising = false, twice = false, high = false;
+    if (key == 0 || key == KEY_LONG)
+        return;
+    for (unsigned i = 1; i < length; i++) {
+        unsigned digit = (unsigned)(key >> 8 * i & 0xFF) - '0', before = (unsigned)(key >> 8 * (i - 1) & 0xFF) - '0';
+        high = high || digit >= lanes;
+        rising = rising || (i > 1 && digit > before);
+        twice = twice || (i > 1 && digit == before);
+    }
+    hit("wrong mask: %s %s", op, wrong_masks[(key & 0xFF) != (lanes == 2 ? 'h' : 'b') ? 4 : length == 1 ? 3 : length > lanes + 1 ? 5
+                                             : high ? 2 : twice ? 0 : rising ? 1 : 4]);
+}
+
+static void count_wrong_selector(const char *op, const char *role, Key key, unsigned lanes)
+{
+    unsigned length = key_length(key);
+    if (key == 0 || key == KEY_LONG)
+        return;
+    hit("wrong selector: %s %s %s", op, role, wrong_selectors[(key & 0xFF) != (lanes == 2 ? 'h' : 'b') ? 3 : length < lanes + 1 ? 0
+                                                               : length > lanes + 1 ? 1 : 2]);
+}
+
+/* A line that has no other fault than one mask or selector. */
+static void count_wrong_lanes(const Line *line, const Record *rec)
+{
+    unsigned lanes = lanes_of(rec->op);
+    if (line->operands != 4 || (line->guarded && line->guard.file != FILE_P))
+        return;
+    for (unsigned i = 0; i < 3; i++) {
+        Line copy = *line;
+        Record other = *rec;
+        Key key = line->operand[i].selector;
+        copy.operand[i].selector = 0;
+        if (key == 0 || !read_record_operands(&copy, &other))
+            continue;
+        if (i == 0)
+            count_wrong_mask(spelling[rec->op], key, lanes);
+        else
+            count_wrong_selector(spelling[rec->op], roles[i], key, lanes);
+    }
+}
+
+static void count_lane_number(const Line *line, const Record *rec)
+{
+    for (unsigned i = 0; i < 4; i++)
+        if (line->operand[i].first.number == R_COUNT)
+            hit("lane refused 6: %s %%r64 as %s", spelling[rec->op], roles[i]);
+    if (line->guarded && line->guard.number == P_COUNT)
+        hit("lane refused 6: %s %%p16 as guard", spelling[rec->op]);
+}
+
+static void count_near_opcode(const Line *line)
+{
+    for EACH(i, near_opcodes) {
+        size_t length = strlen(near_opcodes[i]);
+        if (line->head.length >= length && memcmp(line->head.at, near_opcodes[i], length) == 0 &&
+            (line->head.length == length || line->head.at[length] == '.'))
+            hit("refused 3: %s", near_opcodes[i]);
     }
 }
 
@@ -678,14 +1013,23 @@ static void count_refused(const Byte *p, size_t length, const Line *line, const 
         else if (*skip_blanks(p) == '\n')
             hit("length: blanks alone");
         break;
+    case NO_OPCODE:
+        count_near_opcode(line);
+        break;
     case BAD_MODIFIERS:
         count_wrong_modifiers(line);
+        if (is_lane_arithmetic(line->name[0]))
+            count_wrong_list(line);
         break;
     case BAD_OPERANDS:
         count_wrong_operands(line, rec);
+        if (is_lane_arithmetic(rec->op))
+            count_wrong_lanes(line, rec);
         break;
     case BAD_NUMBER:
         count_great_number(line, rec);
+        if (is_lane_arithmetic(rec->op))
+            count_lane_number(line, rec);
         break;
     default:
         break;
@@ -829,6 +1173,7 @@ int main(int argc, char **argv)
     declare_heads();
     declare_operands();
     declare_values();
+    declare_lane_arithmetic();
     read_tally(argv[1]);
     if (argc == 2)
         return report() > 0;

@@ -4,9 +4,9 @@
  *
  * About three quarters of the lines are legal.  The rest are near misses of
  * legal lines.  "Kits" of legal lines bring special values (NaNs, infinities,
- * subnormals, zeros, extremes) into registers, from any register state; these
- * registers are then "hot": sources are often drawn from them, destinations
- * seldom.
+ * subnormals, zeros, extremes, of words, halves and bytes) into registers, from
+ * any register state; these registers are then "hot": sources are often drawn
+ * from them, destinations seldom.
  *
  * Build:  cc -std=c11 -O2 -Wall -Wextra -Werror generate.c -o generate
  */
@@ -88,10 +88,18 @@ static unsigned last_source, last_double;
 
 enum { EXTREMES = 6 };          /* the first hot ones: 0, 1, 1.0 and the extremes of a word */
 
+/* Registers whose bytes, or halves, are 0, 1, FE.., 7F.., 80.., FF.. and a mixture of them. */
+enum { LANE_WORDS = 7 };
+
+static unsigned lane_words[2][LANE_WORDS];
+
 static bool is_hot(unsigned n)
 {
     for (unsigned i = 0; i < hot_count; i++)
         if (hot[i] == n)
+            return true;
+    for (unsigned i = 0; i < 2 * LANE_WORDS && hot_count > 0; i++)
+        if (lane_words[i / LANE_WORDS][i % LANE_WORDS] == n)
             return true;
     return false;
 }
@@ -113,6 +121,13 @@ static unsigned source_word(void)
 static unsigned hot_word(void)
 {
     return hot_count > 0 ? hot[below(hot_count)] : below(64);
+}
+
+static unsigned lane_word(unsigned lanes)
+{
+    if (hot_count > 0 && percent(70))
+        return PICK(lane_words[lanes == 4]);
+    return source_word();
 }
 
 static unsigned destination_word(void)
@@ -149,12 +164,31 @@ static unsigned predicate(void)
 
 /* ---- kits: special values from any register state ---- */
 
+/* Words for the lanes of `with` (2 or 4), in the registers from r on, out of 0 and of all ones. */
+static void emit_lane_kit(unsigned with, const unsigned *r, unsigned zero, unsigned ones)
+{
+    enum { ONE, GREATEST, LEAST, LAST_BUT_ONE, MIXED };
+    char letter = with == 2 ? 'h' : 'b';
+    unsigned mixed = r[MIXED];
+    const unsigned words[LANE_WORDS] = { zero, ones, r[ONE], r[GREATEST], r[LEAST], r[LAST_BUT_ONE], mixed };
+    memcpy(lane_words[with == 4], words, sizeof words);
+    emit_format("vset%u.u32.u32.eq %%r%u, %%r%u, %%r%u, %%r%u;", with, r[ONE], zero, zero, zero);
+    emit_format("vadd%u.s32.u32.u32.sat %%r%u, %%r%u, %%r%u, %%r%u;", with, r[GREATEST], ones, ones, zero);
+    emit_format("vsub%u.s32.u32.u32.sat %%r%u, %%r%u, %%r%u, %%r%u;", with, r[LEAST], zero, ones, zero);
+    emit_format("vsub%u.s32.s32.s32 %%r%u, %%r%u, %%r%u, %%r%u;", with, r[LAST_BUT_ONE], ones, r[ONE], zero);
+    emit_format("vadd%u.u32.u32.u32 %%r%u.%c0, %%r%u, %%r%u, %%r%u;", with, mixed, letter, r[GREATEST], zero, r[LEAST]);
+    if (with == 4) {
+        emit_format("vmax4.u32.u32.u32 %%r%u.b1, %%r%u, %%r%u, %%r%u;", mixed, r[ONE], zero, mixed);
+        emit_format("vmin4.u32.u32.u32 %%r%u.b2, %%r%u, %%r%u, %%r%u;", mixed, ones, ones, mixed);
+    }
+}
+
 static void emit_kit(void)
 {
     enum {
         ZERO, ONES, ONE, F_ONE, S_MAX, S_MIN, /* EXTREMES */ INF, N_INF, QNAN, N_QNAN, SNAN, N_SNAN,
         SNAN_MAX, F_MAX, NF_MAX, NORMAL, N_NORMAL, SUB_MAX, N_SUB_MAX, N_SUB_MIN,
-        NF_ONE, H_MAX, H_MIN, B_MAX, B_MIN, S_MIN_1, KIT
+        NF_ONE, H_MAX, H_MIN, B_MAX, B_MIN, S_MIN_1, KIT, LANE_KIT = 5
     };
     unsigned r[64];
     for (unsigned i = 0; i < 64; i++)
@@ -195,6 +229,8 @@ static void emit_kit(void)
     emit_format("vadd.s32.u32.u32.sat %%r%u.b0, %%r%u, %%r%u, %%r%u;", r[B_MAX], r[ONES], r[ONES], r[S_MIN]);
     emit_format("vsub.s32.u32.u32.sat %%r%u.b1, %%r%u, %%r%u, %%r%u;", r[B_MIN], r[ZERO], r[ONES], r[ONES]);
     emit_format("vsub.s32.s32.s32 %%r%u, %%r%u, %%r%u;", r[S_MIN_1], r[ONES], r[ONE]);
+    emit_lane_kit(2, r + KIT, r[ZERO], r[ONES]);
+    emit_lane_kit(4, r + KIT + LANE_KIT, r[ZERO], r[ONES]);
 }
 
 /* Predicates of both values. */
@@ -242,6 +278,7 @@ static const char *const cmp_float[] = { "eq", "ne", "lt", "le", "gt", "ge", "eq
 static const char *const op2[] = { "add", "min", "max" };
 static const char *const bool_op[] = { "and", "or", "xor" };
 static const char *const scalar_opcodes[] = { "vadd", "vsub", "vabsdiff", "vmin", "vmax" };
+static const char *const lane_opcodes[] = { "vadd", "vsub", "vavrg", "vabsdiff", "vmin", "vmax" };
 static const char *const parts[] = { "b0", "b1", "b2", "b3", "h0", "h1" };
 
 static bool is_wide(const char *type) { return type[1] == '6'; }
@@ -249,7 +286,7 @@ static bool is_wide(const char *type) { return type[1] == '6'; }
 static void add_scalar_source(Draft *d)
 {
     unsigned n = source_word();
-    if (percent(50))
+    if (percent(60))
         add_operand(d, "%%r%u", n);
     else
         add_operand(d, "%%r%u.%s", n, PICK(parts));
@@ -299,9 +336,8 @@ static void draft_vset(Draft *d)
     add_scalar_operands(d, has_op2, false);
 }
 
-static void add_lane_source(Draft *d, unsigned lanes, const char *standard)
+static void add_lane_source(Draft *d, unsigned n, unsigned lanes, const char *standard)
 {
-    unsigned n = source_word();
     unsigned kind = below(100);
     if (kind < 30)
         add_operand(d, "%%r%u", n);
@@ -313,14 +349,9 @@ static void add_lane_source(Draft *d, unsigned lanes, const char *standard)
         add_operand(d, "%%r%u.b%u%u%u%u", n, below(8), below(8), below(8), below(8));
 }
 
-static void draft_lanes(Draft *d, unsigned lanes)
+/* Operands of the forms with 2 and 4; the sources hold special parts if `special`. */
+static void add_lane_operands(Draft *d, unsigned lanes, bool special)
 {
-    add_name(d, lanes == 2 ? "vset2" : "vset4");
-    add_name(d, PICK(video_types));
-    add_name(d, PICK(video_types));
-    add_name(d, PICK(cmp6));
-    if (percent(40))
-        add_name(d, "add");
     unsigned n = destination_word();
     unsigned mask = 1 + below((1u << lanes) - 1);
     if (percent(30)) {
@@ -335,9 +366,35 @@ static void draft_lanes(Draft *d, unsigned lanes)
         name[length] = '\0';
         add_operand(d, "%%r%u.%s", n, percent(15) ? (lanes == 2 ? "h10" : "b3210") : name);
     }
-    add_lane_source(d, lanes, lanes == 2 ? "h10" : "b3210");
-    add_lane_source(d, lanes, lanes == 2 ? "h32" : "b7654");
+    add_lane_source(d, special ? lane_word(lanes) : source_word(), lanes, lanes == 2 ? "h10" : "b3210");
+    add_lane_source(d, special ? lane_word(lanes) : source_word(), lanes, lanes == 2 ? "h32" : "b7654");
     add_operand(d, "%%r%u", source_word());
+}
+
+static void draft_lanes(Draft *d, unsigned lanes)
+{
+    add_name(d, lanes == 2 ? "vset2" : "vset4");
+    add_name(d, PICK(video_types));
+    add_name(d, PICK(video_types));
+    add_name(d, PICK(cmp6));
+    if (percent(40))
+        add_name(d, "add");
+    add_lane_operands(d, lanes, percent(20));
+}
+
+/* Request T-01. */
+static void draft_lane_arithmetic(Draft *d, unsigned lanes)
+{
+    char opcode[TEXT_MOST];
+    snprintf(opcode, sizeof opcode, "%s%u", PICK(lane_opcodes), lanes);
+    add_name(d, opcode);
+    for (int i = 0; i < 3; i++)
+        add_name(d, PICK(video_types));
+    if (percent(55))
+        add_name(d, "sat");
+    if (percent(50))
+        add_name(d, "add");
+    add_lane_operands(d, lanes, percent(75));
 }
 
 static void add_typed_sources(Draft *d, const char *type)
@@ -360,7 +417,7 @@ static void draft_set(Draft *d, bool setp)
     case 'u': add_name(d, PICK(cmp_unsigned)); break;
     default:  add_name(d, PICK(cmp_float)); break;
     }
-    bool has_bool_op = percent(50);
+    bool has_bool_op = percent(60);
     unsigned c = predicate();
     if (has_bool_op)
         add_name(d, PICK(bool_op));
@@ -430,13 +487,15 @@ static void draft_good(Draft *d)
     if (percent(25))
         snprintf(d->guard, TEXT_MOST, "@%s%%p%u", percent(50) ? "!" : "", predicate());
     unsigned kind = below(100);
-    if (kind < 28)      draft_scalar(d);
-    else if (kind < 36) draft_vset(d);
-    else if (kind < 45) draft_lanes(d, 2);
-    else if (kind < 56) draft_lanes(d, 4);
-    else if (kind < 74) draft_set(d, false);
-    else if (kind < 88) draft_set(d, true);
-    else if (kind < 93) draft_selp(d);
+    if (kind < 26)      draft_scalar(d);
+    else if (kind < 33) draft_vset(d);
+    else if (kind < 38) draft_lanes(d, 2);
+    else if (kind < 43) draft_lanes(d, 4);
+    else if (kind < 50) draft_lane_arithmetic(d, 2);
+    else if (kind < 59) draft_lane_arithmetic(d, 4);
+    else if (kind < 77) draft_set(d, false);
+    else if (kind < 89) draft_set(d, true);
+    else if (kind < 92) draft_selp(d);
     else                draft_slct(d);
 }
 
@@ -448,7 +507,8 @@ static const char *const any_names[] = {
     "b16", "f16", "u8", "eq", "ne", "lt", "le", "gt", "ge", "lo", "ls", "hi", "hs", "equ",
     "neu", "ltu", "leu", "gtu", "geu", "num", "nan", "add", "min", "max", "and", "or",
     "xor", "not", "sat", "ftz", "vmad", "vshl", "vadd4", "vset1", "vset3", "mov", "pred",
-    "a", "0", "u3", "u322", "eqx", "vabsdiff2", "vabsdiffs", "abcdefghijk", "b0", "h10"
+    "a", "0", "u3", "u322", "eqx", "vabsdiff2", "vabsdiffs", "abcdefghijk", "b0", "h10",
+    "vavrg", "vavrg2", "vadd3", "vmax4"
 };
 
 static const char *const any_selectors[] = {
@@ -636,6 +696,101 @@ static void spoil_guard(Draft *d)
     case 3: snprintf(d->guard, TEXT_MOST, "@%%p%u.%.20s", below(16), PICK(any_selectors)); break;
     default: snprintf(d->guard, TEXT_MOST, "%s", percent(50) ? "@!!%p1" : percent(50) ? "@" : "@_"); break;
     }
+}
+
+/* ---- lines of lanes, mostly of request T-01, spoilt in one way each ---- */
+
+/* A list of modifiers that is nearly one, or an opcode that nearly is one. */
+static void spoil_lane_names(Draft *d)
+{
+    static const char *const near[] = { "vavrg", "vadd3", "vsub1", "vavrg3", "vabsdiff3", "vabsdiff22", "vmin8", "vmax44", "varvg2", "varvg4" };
+    static const char *const type[] = { "u64", "s64", "f32", "b32", "u16", "s16", "u8" };
+    d->names = 4;               /* the opcode and its types */
+    switch (below(14)) {
+    case 0: d->names = 3; break;
+    case 1: d->names = 3; add_name(d, percent(50) ? "sat" : "add"); break;
+    case 2: add_name(d, "add"); add_name(d, "sat"); break;
+    case 3: if (percent(50)) add_name(d, "sat"); add_name(d, "min"); break;
+    case 4: if (percent(50)) add_name(d, "sat"); add_name(d, "max"); break;
+    case 5: snprintf(d->name[3], TEXT_MOST, "%s", PICK(cmp6)); if (percent(50)) add_name(d, "add"); break;
+    case 6: add_name(d, PICK(cmp6)); break;
+    case 7: add_name(d, "sat"); add_name(d, "sat"); break;
+    case 8: if (percent(50)) add_name(d, "sat"); add_name(d, "add"); add_name(d, "add"); break;
+    case 9: add_name(d, PICK(video_types)); break;
+    case 10: insert_text(d->name, &d->names, NAMES_MOST, 1 + below(3), "sat"); break;
+    case 11: snprintf(d->name[1 + below(3)], TEXT_MOST, "%s", PICK(type)); break;
+    case 12: snprintf(d->name[0], TEXT_MOST, "%s", PICK(near)); break;
+    default: d->names = 1; break;
+    }
+}
+
+/* Another selector on the operand. */
+static void put_selector(char *operand, const char *selector)
+{
+    char *dot = strchr(operand, '.');
+    size_t length = dot != NULL ? (size_t)(dot - operand) : strlen(operand);
+    snprintf(operand + length, TEXT_MOST - length, ".%s", selector);
+}
+
+static void spoil_lane_selector(Draft *d, unsigned lanes)
+{
+    static const char *const masks[2][6] = {
+        { "h00", "h01", "h2", "h", "b0", "h100" }, { "b00", "b013", "b43", "b", "h10", "b32100" }
+    };
+    static const char *const sources[2][4] = { { "h1", "h102", "h14", "b10" }, { "b210", "b01234", "b8210", "h3210" } };
+    unsigned at = below(3);
+    put_selector(d->operand[at], at == 0 ? PICK(masks[lanes == 4]) : PICK(sources[lanes == 4]));
+}
+
+static void spoil_lane_operand(Draft *d)
+{
+    unsigned at = below(4), n = below(64);
+    switch (below(6)) {
+    case 0: snprintf(d->operand[at], TEXT_MOST, "!%%%s%u", percent(50) ? "r" : "p", below(16)); break;
+    case 1: snprintf(d->operand[at], TEXT_MOST, percent(50) ? "%%r%u|%%r%u" : "%%r%u|_", n, 63 - n); break;
+    case 2: snprintf(d->operand[at], TEXT_MOST, "%%rd%u", below(32)); break;
+    case 3: snprintf(d->operand[at], TEXT_MOST, "%%p%u", below(16)); break;
+    case 4:
+        if (percent(50))
+            d->operands = 1 + below(3);
+        else
+            add_operand(d, "%%r%u", n);
+        break;
+    default:
+        if (percent(70))
+            put_selector(d->operand[3], PICK(any_selectors));
+        else
+            snprintf(d->guard, TEXT_MOST, "@%s%%r%s%u", percent(50) ? "!" : "", percent(50) ? "d" : "", below(32));
+        break;
+    }
+}
+
+/* %r64 as one operand, or %p16 as the guard. */
+static void spoil_lane_number(Draft *d)
+{
+    unsigned at = below(5);
+    if (at == 4) {
+        snprintf(d->guard, TEXT_MOST, "@%s%%p16", percent(50) ? "!" : "");
+        return;
+    }
+    char *dot = strchr(d->operand[at], '.');
+    char selector[TEXT_MOST];
+    snprintf(selector, sizeof selector, "%s", dot != NULL ? dot : "");
+    snprintf(d->operand[at], TEXT_MOST, "%%r64%.20s", selector);
+}
+
+static void draft_lane_miss(Draft *d)
+{
+    unsigned lanes = percent(50) ? 2 : 4, kind = below(100);
+    memset(d, 0, sizeof *d);
+    if (kind >= 33 && percent(15))      /* operands are wrong in vset2 and vset4 as well */
+        draft_lanes(d, lanes);
+    else
+        draft_lane_arithmetic(d, lanes);
+    if (kind < 33)      spoil_lane_names(d);
+    else if (kind < 58) spoil_lane_selector(d, lanes);
+    else if (kind < 91) spoil_lane_operand(d);
+    else                spoil_lane_number(d);
 }
 
 /* ---- lines from drafts ---- */
@@ -833,7 +988,7 @@ static void emit_line(void)
     Draft draft;
     Line line;
     draft_good(&draft);
-    unsigned kind = below(1000);
+    unsigned kind = below(1046);
 
     if (kind < 600) {
         render_some_way(&draft, &line);
@@ -855,6 +1010,8 @@ static void emit_line(void)
         draft_set(&draft, true);
         if (percent(10))
             spoil_operands(&draft);
+        else if (percent(8))
+            spoil_names(&draft);
         snprintf(draft.operand[0], TEXT_MOST, "%%p%u|%%p%u", p, q);
         if (percent(10))
             render_long(&draft, &line);
@@ -882,7 +1039,7 @@ static void emit_line(void)
         random_tokens(&line);
     } else if (kind < 986) {
         crowded(&line);
-    } else {                    /* two misses at once: the order of refusals */
+    } else if (kind < 1000) {   /* two misses at once: the order of refusals */
         for (int i = 0; i < 2; i++)
             switch (below(4)) {
             case 0: spoil_names(&draft); break;
@@ -894,6 +1051,9 @@ static void emit_line(void)
             render_long(&draft, &line);
         else
             render_some_way(&draft, &line);
+    } else {
+        draft_lane_miss(&draft);
+        render_some_way(&draft, &line);
     }
     emit(line.bytes, line.length);
 }
