@@ -670,45 +670,36 @@ fn slct_from(ctype: SlctType, s: ChoiceFound, last: LastFound) -> Filled
 pub fn fill_in(i: Instruction, operands: Operands) -> Filled
     ensures { λ r. ⌜ r ≡ filledOf i operands ⌝ }
 {
+    let o = operands;
     match i {
         Instruction::Arithmetic {
             op,
             dtype,
             sat,
             scalar,
-        } => return arithmetic_from(op, dtype, sat, scalar_of(scalar, operands)),
-        Instruction::Vset { cmp, scalar } => return vset_from(cmp, scalar_of(scalar, operands)),
-        Instruction::VsetLanes { cmp, lanes } => return vset_lanes_from(
-            cmp,
-            lanes_of(lanes, operands),
-        ),
+        } => return arithmetic_from(op, dtype, sat, scalar_of(scalar, o)),
+        Instruction::Vset { cmp, scalar } => return vset_from(cmp, scalar_of(scalar, o)),
+        Instruction::VsetLanes { cmp, lanes } => return vset_lanes_from(cmp, lanes_of(lanes, o)),
         Instruction::ArithmeticLanes {
             op,
             dtype,
             sat,
             lanes,
-        } => return arithmetic_lanes_from(op, dtype, sat, lanes_of(lanes, operands)),
+        } => return arithmetic_lanes_from(op, dtype, sat, lanes_of(lanes, o)),
         Instruction::Set {
             dtype,
             comparison,
             ..
-        } => return set_from(
-            dtype,
-            first_word(operands),
-            comparison_of(comparison, operands),
-        ),
+        } => return set_from(dtype, first_word(o), comparison_of(comparison, o)),
         Instruction::Setp { comparison, .. } => return setp_from(
-            first_destination(operands),
-            comparison_of(comparison, operands),
+            first_destination(o),
+            comparison_of(comparison, o),
         ),
-        Instruction::Selp { choice, .. } => return selp_from(
-            choice_of(choice, operands),
-            last_pred(operands),
-        ),
+        Instruction::Selp { choice, .. } => return selp_from(choice_of(choice, o), last_pred(o)),
         Instruction::Slct { ctype, choice, .. } => return slct_from(
             ctype,
-            choice_of(choice, operands),
-            last_word(operands),
+            choice_of(choice, o),
+            last_word(o),
         ),
     }
 }
