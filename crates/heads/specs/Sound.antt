@@ -439,31 +439,66 @@ listed-opens n l =
     of-listed Opens ((Opcode.Scalar Vadd, refl), ((Opcode.Scalar Vsub, refl), ((Opcode.Scalar Vabsdiff, refl), ((Opcode.Scalar Vmin, refl), ((Opcode.Scalar Vmax, refl), ((Opcode.Vset, refl), ((Opcode.Lanes Half, refl), ((Opcode.Lanes Byte, refl), ((Opcode.LaneArithmetic (LaneArith.Scalar Vadd) Half, refl), ((Opcode.LaneArithmetic (LaneArith.Scalar Vsub) Half, refl), ((Opcode.LaneArithmetic LaneArith.Vavrg Half, refl), ((Opcode.LaneArithmetic (LaneArith.Scalar Vabsdiff) Half, refl), ((Opcode.LaneArithmetic (LaneArith.Scalar Vmin) Half, refl), ((Opcode.LaneArithmetic (LaneArith.Scalar Vmax) Half, refl), ((Opcode.LaneArithmetic (LaneArith.Scalar Vadd) Byte, refl), ((Opcode.LaneArithmetic (LaneArith.Scalar Vsub) Byte, refl), ((Opcode.LaneArithmetic LaneArith.Vavrg Byte, refl), ((Opcode.LaneArithmetic (LaneArith.Scalar Vabsdiff) Byte, refl), ((Opcode.LaneArithmetic (LaneArith.Scalar Vmin) Byte, refl), ((Opcode.LaneArithmetic (LaneArith.Scalar Vmax) Byte, refl), ((Opcode.Set, refl), ((Opcode.Setp, refl), ((Opcode.Selp, refl), ((Opcode.Slct, refl), tt))))))))))))))))))))))))
     l
 
+-- past the first k
+past-listed : (k : ℕ) {n : Name} (ns : List Name) → Listed n (drop k ns) → Listed n ns
+past-listed zero ns h = h
+past-listed (suc k) [] h = h
+past-listed (suc k) (m ∷ ns) h = later (past-listed k ns h)
+
 opcode-listed : (op : Opcode) → Listed (opcodeName op) opcodes
-opcode-listed (Opcode.Scalar Vadd) = here refl
-opcode-listed (Opcode.Scalar Vsub) = later (here refl)
-opcode-listed (Opcode.Scalar Vabsdiff) = later (later (here refl))
-opcode-listed (Opcode.Scalar Vmin) = later (later (later (here refl)))
-opcode-listed (Opcode.Scalar Vmax) = later (later (later (later (here refl))))
-opcode-listed Opcode.Vset = later (later (later (later (later (here refl)))))
-opcode-listed (Opcode.Lanes Half) = later (later (later (later (later (later (here refl))))))
-opcode-listed (Opcode.Lanes Byte) = later (later (later (later (later (later (later (here refl)))))))
-opcode-listed (Opcode.LaneArithmetic (LaneArith.Scalar Vadd) Half) = later (later (later (later (later (later (later (later (here refl))))))))
-opcode-listed (Opcode.LaneArithmetic (LaneArith.Scalar Vsub) Half) = later (later (later (later (later (later (later (later (later (here refl)))))))))
-opcode-listed (Opcode.LaneArithmetic LaneArith.Vavrg Half) = later (later (later (later (later (later (later (later (later (later (here refl))))))))))
-opcode-listed (Opcode.LaneArithmetic (LaneArith.Scalar Vabsdiff) Half) = later (later (later (later (later (later (later (later (later (later (later (here refl)))))))))))
-opcode-listed (Opcode.LaneArithmetic (LaneArith.Scalar Vmin) Half) = later (later (later (later (later (later (later (later (later (later (later (later (here refl))))))))))))
-opcode-listed (Opcode.LaneArithmetic (LaneArith.Scalar Vmax) Half) = later (later (later (later (later (later (later (later (later (later (later (later (later (here refl)))))))))))))
-opcode-listed (Opcode.LaneArithmetic (LaneArith.Scalar Vadd) Byte) = later (later (later (later (later (later (later (later (later (later (later (later (later (later (here refl))))))))))))))
-opcode-listed (Opcode.LaneArithmetic (LaneArith.Scalar Vsub) Byte) = later (later (later (later (later (later (later (later (later (later (later (later (later (later (later (here refl)))))))))))))))
-opcode-listed (Opcode.LaneArithmetic LaneArith.Vavrg Byte) = later (later (later (later (later (later (later (later (later (later (later (later (later (later (later (later (here refl))))))))))))))))
-opcode-listed (Opcode.LaneArithmetic (LaneArith.Scalar Vabsdiff) Byte) = later (later (later (later (later (later (later (later (later (later (later (later (later (later (later (later (later (here refl)))))))))))))))))
-opcode-listed (Opcode.LaneArithmetic (LaneArith.Scalar Vmin) Byte) = later (later (later (later (later (later (later (later (later (later (later (later (later (later (later (later (later (later (here refl))))))))))))))))))
-opcode-listed (Opcode.LaneArithmetic (LaneArith.Scalar Vmax) Byte) = later (later (later (later (later (later (later (later (later (later (later (later (later (later (later (later (later (later (later (here refl)))))))))))))))))))
-opcode-listed Opcode.Set = later (later (later (later (later (later (later (later (later (later (later (later (later (later (later (later (later (later (later (later (here refl))))))))))))))))))))
-opcode-listed Opcode.Setp = later (later (later (later (later (later (later (later (later (later (later (later (later (later (later (later (later (later (later (later (later (here refl)))))))))))))))))))))
-opcode-listed Opcode.Selp = later (later (later (later (later (later (later (later (later (later (later (later (later (later (later (later (later (later (later (later (later (later (here refl))))))))))))))))))))))
-opcode-listed Opcode.Slct = later (later (later (later (later (later (later (later (later (later (later (later (later (later (later (later (later (later (later (later (later (later (later (here refl)))))))))))))))))))))))
+opcode-listed (Opcode.Scalar Vadd) = past-listed 0 opcodes (here refl)
+opcode-listed (Opcode.Scalar Vsub) = past-listed 1 opcodes (here refl)
+opcode-listed (Opcode.Scalar Vabsdiff) = past-listed 2 opcodes (here refl)
+opcode-listed (Opcode.Scalar Vmin) = past-listed 3 opcodes (here refl)
+opcode-listed (Opcode.Scalar Vmax) = past-listed 4 opcodes (here refl)
+opcode-listed Opcode.Vset = past-listed 5 opcodes (here refl)
+opcode-listed (Opcode.Lanes Half) = past-listed 6 opcodes (here refl)
+opcode-listed (Opcode.Lanes Byte) = past-listed 7 opcodes (here refl)
+opcode-listed (Opcode.LaneArithmetic (LaneArith.Scalar Vadd) Half) = past-listed 8 opcodes (here refl)
+opcode-listed (Opcode.LaneArithmetic (LaneArith.Scalar Vsub) Half) = past-listed 9 opcodes (here refl)
+opcode-listed (Opcode.LaneArithmetic LaneArith.Vavrg Half) = past-listed 10 opcodes (here refl)
+opcode-listed (Opcode.LaneArithmetic (LaneArith.Scalar Vabsdiff) Half) = past-listed 11 opcodes (here refl)
+opcode-listed (Opcode.LaneArithmetic (LaneArith.Scalar Vmin) Half) = past-listed 12 opcodes (here refl)
+opcode-listed (Opcode.LaneArithmetic (LaneArith.Scalar Vmax) Half) = past-listed 13 opcodes (here refl)
+opcode-listed (Opcode.LaneArithmetic (LaneArith.Scalar Vadd) Byte) = past-listed 14 opcodes (here refl)
+opcode-listed (Opcode.LaneArithmetic (LaneArith.Scalar Vsub) Byte) = past-listed 15 opcodes (here refl)
+opcode-listed (Opcode.LaneArithmetic LaneArith.Vavrg Byte) = past-listed 16 opcodes (here refl)
+opcode-listed (Opcode.LaneArithmetic (LaneArith.Scalar Vabsdiff) Byte) = past-listed 17 opcodes (here refl)
+opcode-listed (Opcode.LaneArithmetic (LaneArith.Scalar Vmin) Byte) = past-listed 18 opcodes (here refl)
+opcode-listed (Opcode.LaneArithmetic (LaneArith.Scalar Vmax) Byte) = past-listed 19 opcodes (here refl)
+opcode-listed Opcode.Set = past-listed 20 opcodes (here refl)
+opcode-listed Opcode.Setp = past-listed 21 opcodes (here refl)
+opcode-listed Opcode.Selp = past-listed 22 opcodes (here refl)
+opcode-listed Opcode.Slct = past-listed 23 opcodes (here refl)
+
+-- the first name of every instruction is an opcode
+abbrev opcodeNamed : Instruction → Opcode
+opcodeNamed (Arithmetic op dtype sat s) = Opcode.Scalar op
+opcodeNamed (Vset cmp s) = Opcode.Vset
+opcodeNamed (VsetLanes cmp l) = Opcode.Lanes (l .width)
+opcodeNamed (ArithmeticLanes op dtype sat l) = Opcode.LaneArithmetic op (l .width)
+opcodeNamed (Set dtype d s) = Opcode.Set
+opcodeNamed (Setp d s) = Opcode.Setp
+opcodeNamed (Selp s c) = Opcode.Selp
+opcodeNamed (Slct ctype s c) = Opcode.Slct
+
+abbrev firstOf : List Name → Name
+firstOf [] = []
+firstOf (n ∷ ns) = n
+
+first-named : (i : Instruction) → opcodeName (opcodeNamed i) ≡ firstOf (headNames i)
+first-named (Arithmetic op dtype sat s) = refl
+first-named (Vset cmp s) = refl
+first-named (VsetLanes cmp l) = refl
+first-named (ArithmeticLanes op dtype sat l) = refl
+first-named (Set dtype d s) = refl
+first-named (Setp d s) = refl
+first-named (Selp s c) = refl
+first-named (Slct SlctType.S32 s c) = refl
+first-named (Slct (SlctType.F32 ftz) s c) = refl
+
+pub row-listed : (i : Instruction) (n : Name) (ns : List Name) → n ∷ ns ≡ headNames i → Listed n opcodes
+row-listed i n ns e = subst (λ (m : Name). Listed m opcodes) (first-named i ∙ sym (ap firstOf e)) (opcode-listed (opcodeNamed i))
 
 -- a row that was looked at is not answered by `NoOpcode`
 found-opens : (r : Read) → foundOf r ≡ Found.NoOpcode → ⊥

@@ -4,7 +4,7 @@ use native.Mathlib.Omega.{arith}
 use mathlib.Core.Path.{_≡_, refl, sym, ap, subst, _∙_}
 use mathlib.Core.Bool.{Bool, true, false, not, _&&_, and-eq-true-iff}
 use mathlib.Core.List.{List, [], _∷_, map}
-use lib.ListN.{length, drop}
+use lib.ListN.{length}
 use lib.Dec.{ltb}
 use borrow.Author.Tests.{lt-ltb, le-ltb, ltb-true, ltb-false}
 use Rattle.record.specs.Modifiers.{instructionModifiersFit, modifiersFit}
@@ -12,11 +12,6 @@ use Rattle.record.specs.Operands.{operandsFit}
 use Rattle.record.specs.Refusals.{numbersInRange, pairApart, isLegal, Legal}
 use Rattle.record.specs.declared.Guard.{Guard}
 use Rattle.record.specs.declared.Guard.the-variants.{Always, When}
-use Rattle.record.specs.declared.Arith.the-variants.{Vadd, Vsub, Vabsdiff, Vmin, Vmax}
-use Rattle.record.specs.declared.LaneArith.{LaneArith}
-use Rattle.record.specs.declared.LaneArith.the-variants.{Scalar, Vavrg}
-use Rattle.record.specs.declared.LaneWidth.{LaneWidth}
-use Rattle.record.specs.declared.LaneWidth.the-variants.{Half, Byte}
 use Rattle.record.specs.declared.Form.{Form}
 use Rattle.record.specs.declared.Form.the-variants.{Plain, Merge, Combine}
 use Rattle.record.specs.declared.Combination.{Combination}
@@ -28,12 +23,12 @@ use Rattle.record.specs.declared.Instruction.the-variants.{Arithmetic, Vset, Vs
 use Rattle.record.specs.declared.Record.{Record}
 use Rattle.rules.specs.Executing.{word, double, pred}
 use Rattle.rules.specs.Shape.{Name}
-use Rattle.rules.specs.Names.{lanesName, laneArithName, formOp2, combinationNames, headNames}
+use Rattle.rules.specs.Names.{formOp2, combinationNames, headNames}
 use Rattle.rules.specs.Grammar.GoodNames.{more as name-more}
 use Rattle.rules.specs.Grammar.GoodOthers.{none as no-other, more as other-more}
 use Rattle.rules.specs.Grammar.GoodOperands.{none as no-operand, more as operand-more}
 use Rattle.rules.specs.Grammar.{LineTree, GuardTree, unguarded, guarded, Divided, namesOf, operandsOf, GoodOthers, GoodOperands, Shaped}
-use Rattle.rules.specs.Reading.{GuardSpells, Spells, Relates, lineLimit, opcodes, Listed, here, later, Row, Fits, Refuses, over-160, no-shape, no-opcode, no-row, no-fit, out-of-file, same-pair, Answer, read, refused, Answers, accepts, refuses}
+use Rattle.rules.specs.Reading.{GuardSpells, Spells, Relates, lineLimit, opcodes, Listed, Row, Fits, Refuses, over-160, no-shape, no-opcode, no-row, no-fit, out-of-file, same-pair, Answer, read, refused, Answers, accepts, refuses}
 use Rattle.tree.specs.Seen.{seen, seenGuard, seenHead, seenOperands}
 use Rattle.tree.specs.Blank.{blank, blankForm, blankCombination}
 use Rattle.tree.specs.declared.Guarding.{Guarding}
@@ -43,7 +38,7 @@ use Rattle.shape.specs.Complete.{shape-complete}
 use Rattle.shape.specs.Sound.{shape-sound}
 use Rattle.heads.specs.Rows.{rowOf}
 use Rattle.heads.specs.Complete.{row-complete, same-row, wrong-no-row, fit-blank}
-use Rattle.heads.specs.Sound.{row-sound, no-opcode-known, wrong-known}
+use Rattle.heads.specs.Sound.{row-sound, row-listed, no-opcode-known, wrong-known}
 use Rattle.heads.specs.declared.Found
 use Rattle.heads.specs.declared.Found.{Found}
 use Rattle.fills.specs.Fills.{filledOf}
@@ -101,53 +96,6 @@ guard-spells (guarded n (pred k) b) e = (refl, refl)
 good-operands : (ds : List Divided) → GoodOthers ds → GoodOperands (map (λ (d : Divided). d .operand) ds)
 good-operands [] no-other = no-operand
 good-operands (d ∷ ds) (other-more g gs) = operand-more (g .operand) (good-operands ds gs)
-
--- the first name of a row is an opcode
-abbrev firstOf : List Name → Name
-firstOf [] = []
-firstOf (n ∷ ns) = n
-
--- past the first k
-past : (k : ℕ) {n : Name} (ns : List Name) → Listed n (drop k ns) → Listed n ns
-past zero ns h = h
-past (suc k) [] h = h
-past (suc k) (m ∷ ns) h = later (past k ns h)
-
-lanes-listed : (w : LaneWidth) → Listed (lanesName w) opcodes
-lanes-listed Half = past 6 opcodes (here refl)
-lanes-listed Byte = past 7 opcodes (here refl)
-
-lane-arith-listed : (op : LaneArith) (w : LaneWidth) → Listed (laneArithName op w) opcodes
-lane-arith-listed (Scalar Vadd) Half = past 8 opcodes (here refl)
-lane-arith-listed (Scalar Vsub) Half = past 9 opcodes (here refl)
-lane-arith-listed Vavrg Half = past 10 opcodes (here refl)
-lane-arith-listed (Scalar Vabsdiff) Half = past 11 opcodes (here refl)
-lane-arith-listed (Scalar Vmin) Half = past 12 opcodes (here refl)
-lane-arith-listed (Scalar Vmax) Half = past 13 opcodes (here refl)
-lane-arith-listed (Scalar Vadd) Byte = past 14 opcodes (here refl)
-lane-arith-listed (Scalar Vsub) Byte = past 15 opcodes (here refl)
-lane-arith-listed Vavrg Byte = past 16 opcodes (here refl)
-lane-arith-listed (Scalar Vabsdiff) Byte = past 17 opcodes (here refl)
-lane-arith-listed (Scalar Vmin) Byte = past 18 opcodes (here refl)
-lane-arith-listed (Scalar Vmax) Byte = past 19 opcodes (here refl)
-
-first-listed : (i : Instruction) → Listed (firstOf (headNames i)) opcodes
-first-listed (Arithmetic Vadd dtype sat s) = past 0 opcodes (here refl)
-first-listed (Arithmetic Vsub dtype sat s) = past 1 opcodes (here refl)
-first-listed (Arithmetic Vabsdiff dtype sat s) = past 2 opcodes (here refl)
-first-listed (Arithmetic Vmin dtype sat s) = past 3 opcodes (here refl)
-first-listed (Arithmetic Vmax dtype sat s) = past 4 opcodes (here refl)
-first-listed (Vset cmp s) = past 5 opcodes (here refl)
-first-listed (VsetLanes cmp l) = lanes-listed (l .width)
-first-listed (ArithmeticLanes op dtype sat l) = lane-arith-listed op (l .width)
-first-listed (Set dtype d s) = past 20 opcodes (here refl)
-first-listed (Setp d s) = past 21 opcodes (here refl)
-first-listed (Selp s c) = past 22 opcodes (here refl)
-first-listed (Slct SlctType.S32 s c) = past 23 opcodes (here refl)
-first-listed (Slct (SlctType.F32 ftz) s c) = past 23 opcodes (here refl)
-
-row-listed : (i : Instruction) (n : Name) (ns : List Name) → n ∷ ns ≡ headNames i → Listed n opcodes
-row-listed i n ns e = subst (λ (m : Name). Listed m opcodes) (sym (ap firstOf e)) (first-listed i)
 
 -- ==== a tree and the records that it spells
 
