@@ -396,7 +396,8 @@ fn guard(n: u16, p: u16) -> Guard {
     }
 }
 
-fn instruction(kind: u16, f: Fields) -> Instruction {
+fn video(f: Fields) -> Instruction {
+    let kind = f.kind;
     match kind {
         0 => {
             return Instruction::Arithmetic {
@@ -418,6 +419,20 @@ fn instruction(kind: u16, f: Fields) -> Instruction {
                 lanes: lanes(f),
             };
         }
+        _ => {
+            return Instruction::ArithmeticLanes {
+                op: lane_arith(f.t20),
+                dtype: video_type(f.t19),
+                sat: f.t18 == 1,
+                lanes: lanes(f),
+            };
+        }
+    }
+}
+
+fn instruction(f: Fields) -> Instruction {
+    let kind = f.kind;
+    match kind {
         3 => {
             return Instruction::Set {
                 dtype: set_type(f.t12),
@@ -445,12 +460,7 @@ fn instruction(kind: u16, f: Fields) -> Instruction {
             };
         }
         _ => {
-            return Instruction::ArithmeticLanes {
-                op: lane_arith(f.t20),
-                dtype: video_type(f.t19),
-                sat: f.t18 == 1,
-                lanes: lanes(f),
-            };
+            return video(f);
         }
     }
 }
@@ -458,6 +468,6 @@ fn instruction(kind: u16, f: Fields) -> Instruction {
 pub(crate) fn record_of(f: Fields) -> Record {
     Record {
         guard: guard(f.guard, f.gp),
-        instruction: instruction(f.kind, f),
+        instruction: instruction(f),
     }
 }

@@ -115,19 +115,11 @@ fn set_up(line: &[u8], first: u64, second: u64) -> Files {
 
 // ---- what a run changes
 
-fn of_word(w: u32) -> u64 {
-    w as u64
-}
-
-fn of_pred(p: u8) -> u64 {
-    p as u64
-}
-
 fn value_of(f: Files, letter: u8, n: usize) -> u64 {
     match letter {
-        b'r' => of_word(f.words[n % WORDS]),
+        b'r' => f.words[n % WORDS] as u64,
         b'd' => f.doubles[n % DOUBLES],
-        _ => of_pred(f.preds[n % PREDS]),
+        _ => f.preds[n % PREDS] as u64,
     }
 }
 

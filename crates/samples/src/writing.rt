@@ -19,9 +19,8 @@ const MARGIN: usize = 16;
 
 const AREA: usize = 112;
 
-// Legality, what writing answers, and what the area of the buffer holds then.
+// What writing answers, and what the area of the buffer holds then.
 struct Attempt {
-    legal: bool,
     answer: Written,
     area: [u8; AREA],
 }
@@ -29,11 +28,8 @@ struct Attempt {
 fn attempted(record: Fields, size: usize) -> Attempt {
     let mut area = [PATTERN; AREA];
     let end = MARGIN + size % LENGTHS;
-    let r = record_of(record);
-    let legal = legal::legal(r);
-    let answer = write::write(r, &mut area[MARGIN..end]);
+    let answer = write::write(record_of(record), &mut area[MARGIN..end]);
     Attempt {
-        legal: legal,
         answer: answer,
         area: area,
     }
@@ -96,8 +92,8 @@ fn sign(legal: bool) -> u8 {
 }
 
 pub(crate) fn answer_record(record: Fields) {
+    say_byte(sign(legal::legal(record_of(record))));
     let a = attempted(record, BUFFER);
-    say_byte(sign(a.legal));
     let line = a.area;
     let n = answer_size(record, BUFFER, line);
     if 0 < n {
