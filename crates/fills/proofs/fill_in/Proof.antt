@@ -15,10 +15,11 @@ arithmetic-from-requires c κs = search needs
 returns : tie.Need-returns
 unfolding filledOf
 returns c =
-    simp
-    (c .arithmetic-from .ensures,
-    c .before .scalar-of .ensures,
-    c .before .before .before .i .given .1)
+    simp (
+      c .arithmetic-from .ensures,
+      c .before .scalar-of .ensures,
+      c .before .before .before .i .given .1,
+    )
 
 enum-known-i-2 : tie.Need-enum-known-i-2
 enum-known-i-2 c = search needs
@@ -32,10 +33,11 @@ vset-from-requires c κs = search needs
 returns-2 : tie.Need-returns-2
 unfolding filledOf
 returns-2 c =
-    simp
-    (c .vset-from .ensures,
-    c .before .scalar-of2 .ensures,
-    c .before .before .before .i2 .given .1)
+    simp (
+      c .vset-from .ensures,
+      c .before .scalar-of2 .ensures,
+      c .before .before .before .i2 .given .1,
+    )
 
 enum-known-i-3 : tie.Need-enum-known-i-3
 enum-known-i-3 c = search needs
@@ -49,10 +51,11 @@ vset-lanes-from-requires c κs = search needs
 returns-3 : tie.Need-returns-3
 unfolding filledOf
 returns-3 c =
-    simp
-    (c .vset-lanes-from .ensures,
-    c .before .lanes-of .ensures,
-    c .before .before .before .i3 .given .1)
+    simp (
+      c .vset-lanes-from .ensures,
+      c .before .lanes-of .ensures,
+      c .before .before .before .i3 .given .1,
+    )
 
 enum-known-i-4 : tie.Need-enum-known-i-4
 enum-known-i-4 c = search needs
@@ -66,10 +69,11 @@ arithmetic-lanes-from-requires c κs = search needs
 returns-4 : tie.Need-returns-4
 unfolding filledOf
 returns-4 c =
-    simp
-    (c .arithmetic-lanes-from .ensures,
-    c .before .lanes-of2 .ensures,
-    c .before .before .before .i4 .given .1)
+    simp (
+      c .arithmetic-lanes-from .ensures,
+      c .before .lanes-of2 .ensures,
+      c .before .before .before .i4 .given .1,
+    )
 
 enum-known-i-5 : tie.Need-enum-known-i-5
 enum-known-i-5 c = search needs
@@ -86,11 +90,12 @@ set-from-requires c κs = search needs
 returns-5 : tie.Need-returns-5
 unfolding filledOf
 returns-5 c =
-    simp
-    (c .set-from .ensures,
-    c .before .comparison-of .ensures,
-    c .before .before .first-word .ensures,
-    c .before .before .before .before .i5 .given .1)
+    simp (
+      c .set-from .ensures,
+      c .before .comparison-of .ensures,
+      c .before .before .first-word .ensures,
+      c .before .before .before .before .i5 .given .1,
+    )
 
 enum-known-i-6 : tie.Need-enum-known-i-6
 enum-known-i-6 c = search needs
@@ -107,11 +112,12 @@ setp-from-requires c κs = search needs
 returns-6 : tie.Need-returns-6
 unfolding filledOf
 returns-6 c =
-    simp
-    (c .setp-from .ensures,
-    c .before .comparison-of2 .ensures,
-    c .before .before .first-destination .ensures,
-    c .before .before .before .before .i6 .given .1)
+    simp (
+      c .setp-from .ensures,
+      c .before .comparison-of2 .ensures,
+      c .before .before .first-destination .ensures,
+      c .before .before .before .before .i6 .given .1,
+    )
 
 enum-known-i-7 : tie.Need-enum-known-i-7
 enum-known-i-7 c = search needs
@@ -128,11 +134,12 @@ selp-from-requires c κs = search needs
 returns-7 : tie.Need-returns-7
 unfolding filledOf
 returns-7 c =
-    simp
-    (c .selp-from .ensures,
-    c .before .last-pred .ensures,
-    c .before .before .choice-of .ensures,
-    c .before .before .before .before .i7 .given .1)
+    simp (
+      c .selp-from .ensures,
+      c .before .last-pred .ensures,
+      c .before .before .choice-of .ensures,
+      c .before .before .before .before .i7 .given .1,
+    )
 
 enum-known-i-8 : tie.Need-enum-known-i-8
 enum-known-i-8 c = search needs
@@ -149,11 +156,12 @@ slct-from-requires c κs = search needs
 returns-8 : tie.Need-returns-8
 unfolding filledOf
 returns-8 c =
-    simp
-    (c .slct-from .ensures,
-    c .before .last-word .ensures,
-    c .before .before .choice-of2 .ensures,
-    c .before .before .before .before .i8 .given .1)
+    simp (
+      c .slct-from .ensures,
+      c .before .last-word .ensures,
+      c .before .before .choice-of2 .ensures,
+      c .before .before .before .before .i8 .given .1,
+    )
 
 pub fill-in-spec : {M : Type 1} → statement M
 fill-in-spec =
