@@ -13,6 +13,7 @@ use record::Op2;
 use record::Selector;
 use record::SetType;
 use record::VideoType;
+ghost use mathlib.Core.Path.{_≡_};
 ghost use Rattle.base.specs.Pack.{Spells};
 ghost use Rattle.names.specs.Back.{Means, OpcodeBack, VideoBack, SetTypeBack, TypeBack, SixBack, CmpBack, BoolBack, Op2Back, SelectorBack};
 ghost use Rattle.record.specs.declared.CmpOp.the-variants.{Unsigned, Float};
@@ -394,6 +395,12 @@ pub enum SelectorName {
     Not,
 }
 
+fn lane_opcode(op: LaneArith, w: LaneWidth) -> OpcodeName
+    ensures { λ r. ⌜ r ≡ OpcodeName.Is (Opcode.LaneArithmetic op w) ⌝ }
+{
+    OpcodeName::Is(Opcode::LaneArithmetic(op, w))
+}
+
 pub fn opcode_of(x: u64) -> OpcodeName
     ensures { λ r. ⌜ Means OpcodeBack x r ⌝ }
 {
@@ -406,48 +413,18 @@ pub fn opcode_of(x: u64) -> OpcodeName
         VSET => OpcodeName::Is(Opcode::Vset),
         VSET2 => OpcodeName::Is(Opcode::Lanes(LaneWidth::Half)),
         VSET4 => OpcodeName::Is(Opcode::Lanes(LaneWidth::Byte)),
-        VADD2 => OpcodeName::Is(Opcode::LaneArithmetic(
-            LaneArith::Scalar(Arith::Vadd),
-            LaneWidth::Half,
-        )),
-        VSUB2 => OpcodeName::Is(Opcode::LaneArithmetic(
-            LaneArith::Scalar(Arith::Vsub),
-            LaneWidth::Half,
-        )),
-        VAVRG2 => OpcodeName::Is(Opcode::LaneArithmetic(LaneArith::Vavrg, LaneWidth::Half)),
-        VABSDIFF2 => OpcodeName::Is(Opcode::LaneArithmetic(
-            LaneArith::Scalar(Arith::Vabsdiff),
-            LaneWidth::Half,
-        )),
-        VMIN2 => OpcodeName::Is(Opcode::LaneArithmetic(
-            LaneArith::Scalar(Arith::Vmin),
-            LaneWidth::Half,
-        )),
-        VMAX2 => OpcodeName::Is(Opcode::LaneArithmetic(
-            LaneArith::Scalar(Arith::Vmax),
-            LaneWidth::Half,
-        )),
-        VADD4 => OpcodeName::Is(Opcode::LaneArithmetic(
-            LaneArith::Scalar(Arith::Vadd),
-            LaneWidth::Byte,
-        )),
-        VSUB4 => OpcodeName::Is(Opcode::LaneArithmetic(
-            LaneArith::Scalar(Arith::Vsub),
-            LaneWidth::Byte,
-        )),
-        VAVRG4 => OpcodeName::Is(Opcode::LaneArithmetic(LaneArith::Vavrg, LaneWidth::Byte)),
-        VABSDIFF4 => OpcodeName::Is(Opcode::LaneArithmetic(
-            LaneArith::Scalar(Arith::Vabsdiff),
-            LaneWidth::Byte,
-        )),
-        VMIN4 => OpcodeName::Is(Opcode::LaneArithmetic(
-            LaneArith::Scalar(Arith::Vmin),
-            LaneWidth::Byte,
-        )),
-        VMAX4 => OpcodeName::Is(Opcode::LaneArithmetic(
-            LaneArith::Scalar(Arith::Vmax),
-            LaneWidth::Byte,
-        )),
+        VADD2 => lane_opcode(LaneArith::Scalar(Arith::Vadd), LaneWidth::Half),
+        VSUB2 => lane_opcode(LaneArith::Scalar(Arith::Vsub), LaneWidth::Half),
+        VAVRG2 => lane_opcode(LaneArith::Vavrg, LaneWidth::Half),
+        VABSDIFF2 => lane_opcode(LaneArith::Scalar(Arith::Vabsdiff), LaneWidth::Half),
+        VMIN2 => lane_opcode(LaneArith::Scalar(Arith::Vmin), LaneWidth::Half),
+        VMAX2 => lane_opcode(LaneArith::Scalar(Arith::Vmax), LaneWidth::Half),
+        VADD4 => lane_opcode(LaneArith::Scalar(Arith::Vadd), LaneWidth::Byte),
+        VSUB4 => lane_opcode(LaneArith::Scalar(Arith::Vsub), LaneWidth::Byte),
+        VAVRG4 => lane_opcode(LaneArith::Vavrg, LaneWidth::Byte),
+        VABSDIFF4 => lane_opcode(LaneArith::Scalar(Arith::Vabsdiff), LaneWidth::Byte),
+        VMIN4 => lane_opcode(LaneArith::Scalar(Arith::Vmin), LaneWidth::Byte),
+        VMAX4 => lane_opcode(LaneArith::Scalar(Arith::Vmax), LaneWidth::Byte),
         SET => OpcodeName::Is(Opcode::Set),
         SETP => OpcodeName::Is(Opcode::Setp),
         SELP => OpcodeName::Is(Opcode::Selp),
