@@ -35,12 +35,12 @@ ghost use Rattle.rules.specs.Executing.{operandPlace, double};
 ghost use Rattle.record.specs.declared.Instruction.the-variants.{Arithmetic, Vset, VsetLanes, ArithmeticLanes, Set, Setp, Selp, Slct};
 ghost use Rattle.rules.specs.Shape.{bare, part, numberText, registerText, headText, operandText};
 ghost use Rattle.rules.specs.Names.{formOp2, combinationNames, headNames, selectorName};
-ghost use Rattle.rules.specs.StandardLine.{r, p, selectedTree, formTree, formLast, sameMask, sameDigits, maskTree, digitsTree, conditionTree, combinationLast, destinationTree, scalarTrees, lanesTrees, sourceTrees, guardPart, further, operandsText, standard};
+ghost use Rattle.rules.specs.StandardLine.{r, p, selectedTree, formTree, formLast, sameMask, sameDigits, maskTree, digitsTree, conditionTree, combinationLast, destinationTree, scalarTrees, lanesTrees, sourceTrees, operandTrees, guardPart, further, operandsText, standard};
 ghost use Rattle.rules.specs.LineLengths.{longestLine};
 ghost use Rattle.rules.specs.Writing.{outcome, writing};
 ghost use Rattle.text.specs.Buffer.{buffer, Puts};
 ghost use Rattle.write.specs.Pieces.{withDot, DotIf, Optional, ThreeTypes, TwoTypes, furtherOf, Shows, textOf, eight, choiceText};
-ghost use Rattle.write.specs.Line.{Writes, lineOf, copied};
+ghost use Rattle.write.specs.Line.{lineOf, copied};
 ghost use Rattle.write.specs.Answers.{answerOf};
 
 // The length of the line, or document 01's number of the refusal.
@@ -540,14 +540,8 @@ fn pred_piece(q: Pred) -> Piece
 
 // ---- the line
 
-// A row of the table: the names of the head, and the operands.
-struct Row {
-    head: [u64; 6],
-    operands: [u64; 8],
-}
-
-fn row_texts(i: Instruction) -> Row
-    ensures { λ m. ⌜ Writes m i ⌝ }
+fn head_texts(i: Instruction) -> [u64; 6]
+    ensures { λ m. ⌜ spelled m ≡ headText (headNames i) ⌝ }
 {
     match i {
         Instruction::Arithmetic {
@@ -555,47 +549,38 @@ fn row_texts(i: Instruction) -> Row
             dtype,
             sat,
             scalar,
-        } => Row {
-            head: arithmetic_head(op, dtype, sat, scalar),
-            operands: scalar_texts(scalar),
-        },
-        Instruction::Vset { cmp, scalar } => Row {
-            head: vset_head(cmp, scalar),
-            operands: scalar_texts(scalar),
-        },
-        Instruction::VsetLanes { cmp, lanes } => Row {
-            head: vset_lanes_head(cmp, lanes),
-            operands: lanes_texts(lanes),
-        },
+        } => arithmetic_head(op, dtype, sat, scalar),
+        Instruction::Vset { cmp, scalar } => vset_head(cmp, scalar),
+        Instruction::VsetLanes { cmp, lanes } => vset_lanes_head(cmp, lanes),
         Instruction::ArithmeticLanes {
             op,
             dtype,
             sat,
             lanes,
-        } => Row {
-            head: arithmetic_lanes_head(op, dtype, sat, lanes),
-            operands: lanes_texts(lanes),
-        },
+        } => arithmetic_lanes_head(op, dtype, sat, lanes),
         Instruction::Set {
             dtype,
             d,
             comparison,
-        } => Row {
-            head: set_head(dtype, d, comparison),
-            operands: sources_texts(word_piece(d), comparison),
-        },
-        Instruction::Setp { d, comparison } => Row {
-            head: setp_head(d, comparison),
-            operands: sources_texts(destination_piece(d), comparison),
-        },
-        Instruction::Selp { choice, c } => Row {
-            head: selp_head(choice, c),
-            operands: choice_texts(choice, further(pred_piece(c))),
-        },
-        Instruction::Slct { ctype, choice, c } => Row {
-            head: slct_head(ctype, choice, c),
-            operands: choice_texts(choice, further(word_piece(c))),
-        },
+        } => set_head(dtype, d, comparison),
+        Instruction::Setp { d, comparison } => setp_head(d, comparison),
+        Instruction::Selp { choice, c } => selp_head(choice, c),
+        Instruction::Slct { ctype, choice, c } => slct_head(ctype, choice, c),
+    }
+}
+
+fn operand_texts(i: Instruction) -> [u64; 8]
+    ensures { λ m. ⌜ spelled m ≡ operandsText (operandTrees i) ⌝ }
+{
+    match i {
+        Instruction::Arithmetic { scalar, .. } => scalar_texts(scalar),
+        Instruction::Vset { scalar, .. } => scalar_texts(scalar),
+        Instruction::VsetLanes { lanes, .. } => lanes_texts(lanes),
+        Instruction::ArithmeticLanes { lanes, .. } => lanes_texts(lanes),
+        Instruction::Set { d, comparison, .. } => sources_texts(word_piece(d), comparison),
+        Instruction::Setp { d, comparison } => sources_texts(destination_piece(d), comparison),
+        Instruction::Selp { choice, c } => choice_texts(choice, further(pred_piece(c))),
+        Instruction::Slct { choice, c, .. } => choice_texts(choice, further(word_piece(c))),
     }
 }
 
@@ -611,9 +596,8 @@ fn line_texts(x: Record) -> Texts
     let guard = x.guard;
     let instruction = x.instruction;
     let guard = guard_texts(guard);
-    let row = row_texts(instruction);
-    let head = row.head;
-    let operands = row.operands;
+    let head = head_texts(instruction);
+    let operands = operand_texts(instruction);
     Texts {
         guard,
         head,

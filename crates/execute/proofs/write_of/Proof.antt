@@ -3,71 +3,54 @@ use borrow.Author.Needs.{needs}
 use Rattle.execute.proofs.write_of.Statement.{statement}
 use Rattle.execute.proofs.write_of.Tie as tie
 
--- src/lib.rt:276:13
 enum-known-i : tie.Need-enum-known-i
 enum-known-i c = search needs
 
--- src/lib.rt:280:14
 arithmetic-write-requires : tie.Need-arithmetic-write-requires
 arithmetic-write-requires c κs = search needs
 
--- src/lib.rt:281:29
 enum-known-i-2 : tie.Need-enum-known-i-2
 enum-known-i-2 c = search needs
 
--- src/lib.rt:281:46
 vset-write-requires : tie.Need-vset-write-requires
 vset-write-requires c κs = search needs
 
--- src/lib.rt:282:34
 enum-known-i-3 : tie.Need-enum-known-i-3
 enum-known-i-3 c = search needs
 
--- src/lib.rt:282:50
 lanes-write-requires : tie.Need-lanes-write-requires
 lanes-write-requires c κs = search needs
 
--- src/lib.rt:284:13
 enum-known-i-4 : tie.Need-enum-known-i-4
 enum-known-i-4 c = search needs
 
--- src/lib.rt:288:14
 arithmetic-lanes-write-requires : tie.Need-arithmetic-lanes-write-requires
 arithmetic-lanes-write-requires c κs = search needs
 
--- src/lib.rt:290:13
 enum-known-i-5 : tie.Need-enum-known-i-5
 enum-known-i-5 c = search needs
 
--- src/lib.rt:293:14
 set-write-requires : tie.Need-set-write-requires
 set-write-requires c κs = search needs
 
--- src/lib.rt:294:29
 enum-known-i-6 : tie.Need-enum-known-i-6
 enum-known-i-6 c = search needs
 
--- src/lib.rt:294:48
 setp-write-requires : tie.Need-setp-write-requires
 setp-write-requires c κs = search needs
 
--- src/lib.rt:295:29
 enum-known-i-7 : tie.Need-enum-known-i-7
 enum-known-i-7 c = search needs
 
--- src/lib.rt:295:44
 selp-write-requires : tie.Need-selp-write-requires
 selp-write-requires c κs = search needs
 
--- src/lib.rt:296:29
 enum-known-i-8 : tie.Need-enum-known-i-8
 enum-known-i-8 c = search needs
 
--- src/lib.rt:296:51
 slct-write-requires : tie.Need-slct-write-requires
 slct-write-requires c κs = search needs
 
--- src/lib.rt:270:1
 returns : tie.Need-returns
 unfolding writeOf
 returns c =
@@ -76,7 +59,6 @@ returns c =
       c .before .before .i .given .1,
     )
 
--- src/lib.rt:270:1
 returns-2 : tie.Need-returns-2
 unfolding writeOf
 returns-2 c =
@@ -85,7 +67,6 @@ returns-2 c =
       c .before .before .i2 .given .1,
     )
 
--- src/lib.rt:270:1
 returns-3 : tie.Need-returns-3
 unfolding writeOf
 returns-3 c =
@@ -94,7 +75,6 @@ returns-3 c =
       c .before .before .i3 .given .1,
     )
 
--- src/lib.rt:270:1
 returns-4 : tie.Need-returns-4
 unfolding writeOf
 returns-4 c =
@@ -103,7 +83,6 @@ returns-4 c =
       c .before .before .i4 .given .1,
     )
 
--- src/lib.rt:270:1
 returns-5 : tie.Need-returns-5
 unfolding writeOf
 returns-5 c =
@@ -112,7 +91,6 @@ returns-5 c =
       c .before .before .i5 .given .1,
     )
 
--- src/lib.rt:270:1
 returns-6 : tie.Need-returns-6
 unfolding writeOf
 returns-6 c =
@@ -121,7 +99,6 @@ returns-6 c =
       c .before .before .i6 .given .1,
     )
 
--- src/lib.rt:270:1
 returns-7 : tie.Need-returns-7
 unfolding writeOf
 returns-7 c =
@@ -130,7 +107,6 @@ returns-7 c =
       c .before .before .i7 .given .1,
     )
 
--- src/lib.rt:270:1
 returns-8 : tie.Need-returns-8
 unfolding writeOf
 returns-8 c =

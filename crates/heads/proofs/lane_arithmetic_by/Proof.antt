@@ -2,11 +2,6 @@ use Rattle.heads.specs.Rows.{laneArithmeticBy}
 use borrow.Author.Needs.{needs}
 use Rattle.heads.proofs.lane_arithmetic_by.Statement.{statement}
 use Rattle.heads.proofs.lane_arithmetic_by.Tie as tie
-use Rattle.heads.proofs.lane_arithmetic_by.Reads as reads
-use Rattle.heads.proofs.lane_arithmetic_by.Lts as lts
-use Rattle.heads.proofs.after.Reads as after-reads
-use Rattle.heads.proofs.blank_lanes.Reads as blank-lanes-reads
-use Rattle.heads.proofs.whole.Reads as whole-reads
 
 blank-lanes-requires : tie.Need-blank-lanes-requires
 blank-lanes-requires c κs = search needs

@@ -2,11 +2,6 @@ use Rattle.heads.specs.Rows.{laneArithmeticFrom, laneArithmeticOf}
 use borrow.Author.Needs.{needs}
 use Rattle.heads.proofs.read_lane_arithmetic.Statement.{statement}
 use Rattle.heads.proofs.read_lane_arithmetic.Tie as tie
-use Rattle.heads.proofs.read_lane_arithmetic.Reads as reads
-use Rattle.heads.proofs.read_lane_arithmetic.Lts as lts
-use Rattle.heads.proofs.lane_arithmetic_by.Reads as lane-arithmetic-by-reads
-use Rattle.heads.proofs.name.Reads as name-reads
-use Rattle.heads.proofs.read_typed.Reads as read-typed-reads
 
 read-typed-requires : tie.Need-read-typed-requires
 read-typed-requires c κs = search needs

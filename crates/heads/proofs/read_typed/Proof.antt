@@ -3,12 +3,6 @@ use Rattle.heads.specs.Rows.{typedOf}
 use borrow.Author.Needs.{needs}
 use Rattle.heads.proofs.read_typed.Statement.{statement}
 use Rattle.heads.proofs.read_typed.Tie as tie
-use Rattle.heads.proofs.read_typed.Reads as reads
-use Rattle.heads.proofs.read_typed.Lts as lts
-use Rattle.heads.proofs.name.Reads as name-reads
-use Rattle.heads.proofs.read_sides.Reads as read-sides-reads
-use Rattle.heads.proofs.typed_by.Reads as typed-by-reads
-use Rattle.names.proofs.video_of.Reads as video-of-reads
 
 name-requires : tie.Need-name-requires
 name-requires c κs = search needs

@@ -2,9 +2,6 @@ use Rattle.heads.specs.Rows.{typedBy}
 use borrow.Author.Needs.{needs}
 use Rattle.heads.proofs.typed_by.Statement.{statement}
 use Rattle.heads.proofs.typed_by.Tie as tie
-use Rattle.heads.proofs.typed_by.Reads as reads
-use Rattle.heads.proofs.typed_by.Lts as lts
-use Rattle.heads.proofs.sat_end.Reads as sat-end-reads
 
 enum-known-d : tie.Need-enum-known-d
 enum-known-d c = search needs

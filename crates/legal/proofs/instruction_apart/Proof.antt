@@ -1,67 +1,49 @@
 use borrow.Author.Needs.{needs}
 use Rattle.legal.proofs.instruction_apart.Statement.{statement}
 use Rattle.legal.proofs.instruction_apart.Tie as tie
-use Rattle.legal.proofs.instruction_apart.Reads as reads
-use Rattle.legal.proofs.instruction_apart.Lts as lts
-use Rattle.legal.proofs.destination_apart.Reads as destination-apart-reads
 
--- src/lib.rt:173:43
 enum-told : tie.Need-enum-told
 enum-told c = search needs
 
--- src/lib.rt:174:37
 enum-told-2 : tie.Need-enum-told-2
 enum-told-2 c = search needs
 
--- src/lib.rt:175:42
 enum-told-3 : tie.Need-enum-told-3
 enum-told-3 c = search needs
 
--- src/lib.rt:176:48
 enum-told-4 : tie.Need-enum-told-4
 enum-told-4 c = search needs
 
--- src/lib.rt:177:36
 enum-told-5 : tie.Need-enum-told-5
 enum-told-5 c = search needs
 
--- src/lib.rt:178:29
 enum-known-i : tie.Need-enum-known-i
 enum-known-i c = search needs
 
--- src/lib.rt:178:40
 destination-apart-requires : tie.Need-destination-apart-requires
 destination-apart-requires c κs = search needs
 
--- src/lib.rt:179:37
 enum-told-6 : tie.Need-enum-told-6
 enum-told-6 c = search needs
 
--- src/lib.rt:180:37
 enum-told-7 : tie.Need-enum-told-7
 enum-told-7 c = search needs
 
--- src/lib.rt:169:1
 returns : tie.Need-returns
 returns c = search needs
 
--- src/lib.rt:169:1
 returns-2 : tie.Need-returns-2
 returns-2 c = search needs
 
--- src/lib.rt:169:1
 returns-3 : tie.Need-returns-3
 returns-3 c = search needs
 
--- src/lib.rt:169:1
 returns-4 : tie.Need-returns-4
 returns-4 c = search needs
 
--- src/lib.rt:169:1
 returns-5 : tie.Need-returns-5
 returns-5 c = search needs
 
--- src/lib.rt:169:1
 returns-6 : tie.Need-returns-6
 returns-6 c =
     simp (
@@ -69,11 +51,9 @@ returns-6 c =
       c .before .before .i .given .1,
     )
 
--- src/lib.rt:169:1
 returns-7 : tie.Need-returns-7
 returns-7 c = search needs
 
--- src/lib.rt:169:1
 returns-8 : tie.Need-returns-8
 returns-8 c = search needs
 

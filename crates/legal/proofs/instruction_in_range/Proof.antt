@@ -1,97 +1,67 @@
 use borrow.Author.Needs.{needs}
 use Rattle.legal.proofs.instruction_in_range.Statement.{statement}
 use Rattle.legal.proofs.instruction_in_range.Tie as tie
-use Rattle.legal.proofs.instruction_in_range.Reads as reads
-use Rattle.legal.proofs.instruction_in_range.Lts as lts
-use Rattle.legal.proofs.choice_in_range.Reads as choice-in-range-reads
-use Rattle.legal.proofs.comparison_in_range.Reads as comparison-in-range-reads
-use Rattle.legal.proofs.destination_in_range.Reads as destination-in-range-reads
-use Rattle.legal.proofs.lanes_in_range.Reads as lanes-in-range-reads
-use Rattle.legal.proofs.pred_in_file.Reads as pred-in-file-reads
-use Rattle.legal.proofs.scalar_in_range.Reads as scalar-in-range-reads
-use Rattle.legal.proofs.word_in_file.Reads as word-in-file-reads
 
--- src/lib.rt:144:35
 enum-known-i : tie.Need-enum-known-i
 enum-known-i c = search needs
 
--- src/lib.rt:144:51
 scalar-in-range-requires : tie.Need-scalar-in-range-requires
 scalar-in-range-requires c κs = search needs
 
--- src/lib.rt:145:29
 enum-known-i-2 : tie.Need-enum-known-i-2
 enum-known-i-2 c = search needs
 
--- src/lib.rt:145:45
 scalar-in-range-requires-2 : tie.Need-scalar-in-range-requires-2
 scalar-in-range-requires-2 c κs = search needs
 
--- src/lib.rt:146:34
 enum-known-i-3 : tie.Need-enum-known-i-3
 enum-known-i-3 c = search needs
 
--- src/lib.rt:146:49
 lanes-in-range-requires : tie.Need-lanes-in-range-requires
 lanes-in-range-requires c κs = search needs
 
--- src/lib.rt:147:40
 enum-known-i-4 : tie.Need-enum-known-i-4
 enum-known-i-4 c = search needs
 
--- src/lib.rt:147:55
 lanes-in-range-requires-2 : tie.Need-lanes-in-range-requires-2
 lanes-in-range-requires-2 c κs = search needs
 
--- src/lib.rt:148:28
 enum-known-i-5 : tie.Need-enum-known-i-5
 enum-known-i-5 c = search needs
 
--- src/lib.rt:148:51
 word-in-file-requires : tie.Need-word-in-file-requires
 word-in-file-requires c κs = search needs
 
--- src/lib.rt:148:69
 comparison-in-range-requires : tie.Need-comparison-in-range-requires
 comparison-in-range-requires c κs = search needs
 
--- src/lib.rt:149:29
 enum-known-i-6 : tie.Need-enum-known-i-6
 enum-known-i-6 c = search needs
 
--- src/lib.rt:149:48
 destination-in-range-requires : tie.Need-destination-in-range-requires
 destination-in-range-requires c κs = search needs
 
--- src/lib.rt:150:15
 comparison-in-range-requires-2 : tie.Need-comparison-in-range-requires-2
 comparison-in-range-requires-2 c κs = search needs
 
--- src/lib.rt:151:29
 enum-known-i-7 : tie.Need-enum-known-i-7
 enum-known-i-7 c = search needs
 
--- src/lib.rt:151:44
 choice-in-range-requires : tie.Need-choice-in-range-requires
 choice-in-range-requires c κs = search needs
 
--- src/lib.rt:151:70
 pred-in-file-requires : tie.Need-pred-in-file-requires
 pred-in-file-requires c κs = search needs
 
--- src/lib.rt:152:29
 enum-known-i-8 : tie.Need-enum-known-i-8
 enum-known-i-8 c = search needs
 
--- src/lib.rt:152:48
 choice-in-range-requires-2 : tie.Need-choice-in-range-requires-2
 choice-in-range-requires-2 c κs = search needs
 
--- src/lib.rt:152:74
 word-in-file-requires-2 : tie.Need-word-in-file-requires-2
 word-in-file-requires-2 c κs = search needs
 
--- src/lib.rt:140:1
 returns : tie.Need-returns
 returns c =
     simp (
@@ -99,7 +69,6 @@ returns c =
       c .before .before .i .given .1,
     )
 
--- src/lib.rt:140:1
 returns-2 : tie.Need-returns-2
 returns-2 c =
     simp (
@@ -107,7 +76,6 @@ returns-2 c =
       c .before .before .i2 .given .1,
     )
 
--- src/lib.rt:140:1
 returns-3 : tie.Need-returns-3
 returns-3 c =
     simp (
@@ -115,7 +83,6 @@ returns-3 c =
       c .before .before .i3 .given .1,
     )
 
--- src/lib.rt:140:1
 returns-4 : tie.Need-returns-4
 returns-4 c =
     simp (
@@ -123,7 +90,6 @@ returns-4 c =
       c .before .before .i4 .given .1,
     )
 
--- src/lib.rt:140:1
 returns-5 : tie.Need-returns-5
 returns-5 c =
     simp (
@@ -132,7 +98,6 @@ returns-5 c =
       c .before .before .before .i5 .given .1,
     )
 
--- src/lib.rt:140:1
 returns-6 : tie.Need-returns-6
 returns-6 c =
     simp (
@@ -141,7 +106,6 @@ returns-6 c =
       c .before .before .before .i6 .given .1,
     )
 
--- src/lib.rt:140:1
 returns-7 : tie.Need-returns-7
 returns-7 c =
     simp (
@@ -150,7 +114,6 @@ returns-7 c =
       c .before .before .before .i7 .given .1,
     )
 
--- src/lib.rt:140:1
 returns-8 : tie.Need-returns-8
 returns-8 c =
     simp (

@@ -5,11 +5,9 @@ use borrow.Author.Needs.{needs}
 use Rattle.video.proofs.addend.Statement.{statement}
 use Rattle.video.proofs.addend.Tie as tie
 
--- src/lib.rt:373:1
 returns : tie.Need-returns
 returns c = (rw (c .if1 .taken), search needs)
 
--- src/lib.rt:373:1
 returns-2 : tie.Need-returns-2
 returns-2 c = (rw (c .if1 .left) (un-up bias 0), omega arith)
 

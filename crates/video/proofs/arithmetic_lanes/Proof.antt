@@ -13,15 +13,12 @@ use borrow.Author.Needs.{needs}
 use Rattle.video.proofs.arithmetic_lanes.Statement.{statement}
 use Rattle.video.proofs.arithmetic_lanes.Tie as tie
 
--- src/lib.rt:499:14
 results-requires : tie.Need-results-requires
 results-requires c κs = search needs
 
--- src/lib.rt:499:5
 group-requires : tie.Need-group-requires
 group-requires c κs = search needs
 
--- src/lib.rt:496:1
 returns : tie.Need-returns
 unfolding arithmeticLanesOf
 returns c = rw (c .group .ensures) (stand-group (c .before .before .args .l) (c .before .results .result) (laneResult (c .before .before .args .op) (c .before .before .args .dtype) (c .before .before .args .sat) (c .before .before .args .l) (c .before .before .args .a) (c .before .before .args .b)) (c .before .before .args .c) (c .before .results .ensures .0))

@@ -3,27 +3,21 @@ use borrow.Author.Needs.{needs}
 use Rattle.video.proofs.group.Statement.{statement}
 use Rattle.video.proofs.group.Tie as tie
 
--- src/lib.rt:417:24
 wide-requires : tie.Need-wide-requires
 wide-requires c κs = search needs
 
--- src/lib.rt:417:24
 add-sum : tie.Need-add-sum
 add-sum c = search needs
 
--- src/lib.rt:417:40
 total-requires : tie.Need-total-requires
 total-requires c κs = search needs
 
--- src/lib.rt:417:20
 sum-requires : tie.Need-sum-requires
 sum-requires c κs = search needs
 
--- src/lib.rt:417:9
 low-requires : tie.Need-low-requires
 low-requires c κs = search needs
 
--- src/lib.rt:417:9
 returns : tie.Need-returns
 returns c = simp (
   c .low .ensures,
@@ -34,11 +28,9 @@ returns c = simp (
   un-up,
 )
 
--- src/lib.rt:419:5
 merge-requires : tie.Need-merge-requires
 merge-requires c κs = search needs
 
--- src/lib.rt:411:1
 returns-2 : tie.Need-returns-2
 returns-2 c = simp (c .merge .ensures, c .before .if1 .left)
 

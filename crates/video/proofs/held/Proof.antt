@@ -4,63 +4,48 @@ use borrow.Author.Needs.{needs}
 use Rattle.video.proofs.held.Statement.{statement}
 use Rattle.video.proofs.held.Tie as tie
 
--- src/lib.rt:429:13
 picked-requires : tie.Need-picked-requires
 picked-requires c κs = search needs
 
--- src/lib.rt:430:13
 picked-requires-2 : tie.Need-picked-requires-2
 picked-requires-2 c κs = search needs
 
--- src/lib.rt:432:20
 array-read-truth : tie.Need-array-read-truth
 array-read-truth c = search needs
 
--- src/lib.rt:432:26
 array-read-truth-2 : tie.Need-array-read-truth-2
 array-read-truth-2 c = search needs
 
--- src/lib.rt:432:9
 truth-requires : tie.Need-truth-requires
 truth-requires c κs = search needs
 
--- src/lib.rt:433:20
 array-read-truth-3 : tie.Need-array-read-truth-3
 array-read-truth-3 c = search needs
 
--- src/lib.rt:433:26
 array-read-truth-4 : tie.Need-array-read-truth-4
 array-read-truth-4 c = search needs
 
--- src/lib.rt:433:9
 truth-requires-2 : tie.Need-truth-requires-2
 truth-requires-2 c κs = search needs
 
--- src/lib.rt:434:20
 array-read-truth-5 : tie.Need-array-read-truth-5
 array-read-truth-5 c = search needs
 
--- src/lib.rt:434:26
 array-read-truth-6 : tie.Need-array-read-truth-6
 array-read-truth-6 c = search needs
 
--- src/lib.rt:434:9
 truth-requires-3 : tie.Need-truth-requires-3
 truth-requires-3 c κs = search needs
 
--- src/lib.rt:435:20
 array-read-truth-7 : tie.Need-array-read-truth-7
 array-read-truth-7 c = search needs
 
--- src/lib.rt:435:26
 array-read-truth-8 : tie.Need-array-read-truth-8
 array-read-truth-8 c = search needs
 
--- src/lib.rt:435:9
 truth-requires-4 : tie.Need-truth-requires-4
 truth-requires-4 c κs = search needs
 
--- src/lib.rt:423:1
 returns : tie.Need-returns
 unfolding laneHolds
 returns c = simp (

@@ -5,75 +5,57 @@ use borrow.Author.Needs.{needs}
 use Rattle.video.proofs.merge.Statement.{statement}
 use Rattle.video.proofs.merge.Tie as tie
 
--- src/lib.rt:402:37
 array-read-low-part : tie.Need-array-read-low-part
 array-read-low-part c = search needs
 
--- src/lib.rt:402:25
 low-part-requires : tie.Need-low-part-requires
 low-part-requires c κs = search needs
 
--- src/lib.rt:402:44
 part-requires : tie.Need-part-requires
 part-requires c κs = search needs
 
--- src/lib.rt:402:9
 either-requires : tie.Need-either-requires
 either-requires c κs = search needs
 
--- src/lib.rt:403:37
 array-read-low-part-2 : tie.Need-array-read-low-part-2
 array-read-low-part-2 c = search needs
 
--- src/lib.rt:403:25
 low-part-requires-2 : tie.Need-low-part-requires-2
 low-part-requires-2 c κs = search needs
 
--- src/lib.rt:403:44
 part-requires-2 : tie.Need-part-requires-2
 part-requires-2 c κs = search needs
 
--- src/lib.rt:403:9
 either-requires-2 : tie.Need-either-requires-2
 either-requires-2 c κs = search needs
 
--- src/lib.rt:404:37
 array-read-low-part-3 : tie.Need-array-read-low-part-3
 array-read-low-part-3 c = search needs
 
--- src/lib.rt:404:25
 low-part-requires-3 : tie.Need-low-part-requires-3
 low-part-requires-3 c κs = search needs
 
--- src/lib.rt:404:44
 part-requires-3 : tie.Need-part-requires-3
 part-requires-3 c κs = search needs
 
--- src/lib.rt:404:9
 either-requires-3 : tie.Need-either-requires-3
 either-requires-3 c κs = search needs
 
--- src/lib.rt:405:37
 array-read-low-part-4 : tie.Need-array-read-low-part-4
 array-read-low-part-4 c = search needs
 
--- src/lib.rt:405:25
 low-part-requires-4 : tie.Need-low-part-requires-4
 low-part-requires-4 c κs = search needs
 
--- src/lib.rt:405:44
 part-requires-4 : tie.Need-part-requires-4
 part-requires-4 c κs = search needs
 
--- src/lib.rt:405:9
 either-requires-4 : tie.Need-either-requires-4
 either-requires-4 c κs = search needs
 
--- src/lib.rt:407:5
 rejoin-requires : tie.Need-rejoin-requires
 rejoin-requires c κs = search needs
 
--- src/lib.rt:396:1
 returns : tie.Need-returns
 returns c = simp (
   c .rejoin .ensures,

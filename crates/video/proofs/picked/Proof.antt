@@ -3,51 +3,39 @@ use borrow.Author.Needs.{needs}
 use Rattle.video.proofs.picked.Statement.{statement}
 use Rattle.video.proofs.picked.Tie as tie
 
--- src/lib.rt:362:9
 signed-requires : tie.Need-signed-requires
 signed-requires c κs = search needs
 
--- src/lib.rt:363:18
 lane-size-requires : tie.Need-lane-size-requires
 lane-size-requires c κs = search needs
 
--- src/lib.rt:363:9
 wide-requires : tie.Need-wide-requires
 wide-requires c κs = search needs
 
--- src/lib.rt:365:25
 numbered-part-requires : tie.Need-numbered-part-requires
 numbered-part-requires c κs = search needs
 
--- src/lib.rt:365:9
 number-requires : tie.Need-number-requires
 number-requires c κs = search needs
 
--- src/lib.rt:366:25
 numbered-part-requires-2 : tie.Need-numbered-part-requires-2
 numbered-part-requires-2 c κs = search needs
 
--- src/lib.rt:366:9
 number-requires-2 : tie.Need-number-requires-2
 number-requires-2 c κs = search needs
 
--- src/lib.rt:367:25
 numbered-part-requires-3 : tie.Need-numbered-part-requires-3
 numbered-part-requires-3 c κs = search needs
 
--- src/lib.rt:367:9
 number-requires-3 : tie.Need-number-requires-3
 number-requires-3 c κs = search needs
 
--- src/lib.rt:368:25
 numbered-part-requires-4 : tie.Need-numbered-part-requires-4
 numbered-part-requires-4 c κs = search needs
 
--- src/lib.rt:368:9
 number-requires-4 : tie.Need-number-requires-4
 number-requires-4 c κs = search needs
 
--- src/lib.rt:359:1
 returns : tie.Need-returns
 returns c = simp (
   c .before .before .before .before .before .before .number .ensures .0,

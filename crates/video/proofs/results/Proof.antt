@@ -4,75 +4,57 @@ use borrow.Author.Needs.{needs}
 use Rattle.video.proofs.results.Statement.{statement}
 use Rattle.video.proofs.results.Tie as tie
 
--- src/lib.rt:483:9
 signed-requires : tie.Need-signed-requires
 signed-requires c κs = search needs
 
--- src/lib.rt:484:18
 lane-size-requires : tie.Need-lane-size-requires
 lane-size-requires c κs = search needs
 
--- src/lib.rt:484:9
 wide-requires : tie.Need-wide-requires
 wide-requires c κs = search needs
 
--- src/lib.rt:485:13
 picked-requires : tie.Need-picked-requires
 picked-requires c κs = search needs
 
--- src/lib.rt:486:13
 picked-requires-2 : tie.Need-picked-requires-2
 picked-requires-2 c κs = search needs
 
--- src/lib.rt:488:39
 array-read-lane-result : tie.Need-array-read-lane-result
 array-read-lane-result c = search needs
 
--- src/lib.rt:488:45
 array-read-lane-result-2 : tie.Need-array-read-lane-result-2
 array-read-lane-result-2 c = search needs
 
--- src/lib.rt:488:9
 lane-result-requires : tie.Need-lane-result-requires
 lane-result-requires c κs = search needs
 
--- src/lib.rt:489:39
 array-read-lane-result-3 : tie.Need-array-read-lane-result-3
 array-read-lane-result-3 c = search needs
 
--- src/lib.rt:489:45
 array-read-lane-result-4 : tie.Need-array-read-lane-result-4
 array-read-lane-result-4 c = search needs
 
--- src/lib.rt:489:9
 lane-result-requires-2 : tie.Need-lane-result-requires-2
 lane-result-requires-2 c κs = search needs
 
--- src/lib.rt:490:39
 array-read-lane-result-5 : tie.Need-array-read-lane-result-5
 array-read-lane-result-5 c = search needs
 
--- src/lib.rt:490:45
 array-read-lane-result-6 : tie.Need-array-read-lane-result-6
 array-read-lane-result-6 c = search needs
 
--- src/lib.rt:490:9
 lane-result-requires-3 : tie.Need-lane-result-requires-3
 lane-result-requires-3 c κs = search needs
 
--- src/lib.rt:491:39
 array-read-lane-result-7 : tie.Need-array-read-lane-result-7
 array-read-lane-result-7 c = search needs
 
--- src/lib.rt:491:45
 array-read-lane-result-8 : tie.Need-array-read-lane-result-8
 array-read-lane-result-8 c = search needs
 
--- src/lib.rt:491:9
 lane-result-requires-4 : tie.Need-lane-result-requires-4
 lane-result-requires-4 c κs = search needs
 
--- src/lib.rt:477:1
 returns : tie.Need-returns
 unfolding laneResult
 returns c = simp (

@@ -5,71 +5,54 @@ use borrow.Author.Needs.{needs}
 use Rattle.video.proofs.total.Statement.{statement}
 use Rattle.video.proofs.total.Tie as tie
 
--- src/lib.rt:385:30
 array-read-addend : tie.Need-array-read-addend
 array-read-addend c = search needs
 
--- src/lib.rt:385:9
 addend-requires : tie.Need-addend-requires
 addend-requires c κs = search needs
 
--- src/lib.rt:386:30
 array-read-addend-2 : tie.Need-array-read-addend-2
 array-read-addend-2 c = search needs
 
--- src/lib.rt:386:9
 addend-requires-2 : tie.Need-addend-requires-2
 addend-requires-2 c κs = search needs
 
--- src/lib.rt:387:30
 array-read-addend-3 : tie.Need-array-read-addend-3
 array-read-addend-3 c = search needs
 
--- src/lib.rt:387:9
 addend-requires-3 : tie.Need-addend-requires-3
 addend-requires-3 c κs = search needs
 
--- src/lib.rt:388:30
 array-read-addend-4 : tie.Need-array-read-addend-4
 array-read-addend-4 c = search needs
 
--- src/lib.rt:388:9
 addend-requires-4 : tie.Need-addend-requires-4
 addend-requires-4 c κs = search needs
 
--- src/lib.rt:390:36
 enum-told : tie.Need-enum-told
 enum-told c = search needs
 
--- src/lib.rt:390:36
 sum-requires : tie.Need-sum-requires
 sum-requires c κs = search needs
 
--- src/lib.rt:390:28
 sum-requires-2 : tie.Need-sum-requires-2
 sum-requires-2 c κs = search needs
 
--- src/lib.rt:391:52
 enum-told-2 : tie.Need-enum-told-2
 enum-told-2 c = search needs
 
--- src/lib.rt:391:52
 sum-requires-3 : tie.Need-sum-requires-3
 sum-requires-3 c κs = search needs
 
--- src/lib.rt:391:44
 sum-requires-4 : tie.Need-sum-requires-4
 sum-requires-4 c κs = search needs
 
--- src/lib.rt:391:36
 sum-requires-5 : tie.Need-sum-requires-5
 sum-requires-5 c κs = search needs
 
--- src/lib.rt:391:28
 sum-requires-6 : tie.Need-sum-requires-6
 sum-requires-6 c κs = search needs
 
--- src/lib.rt:381:1
 returns : tie.Need-returns
 returns c = (
   simp (
@@ -84,7 +67,6 @@ returns c = (
   omega arith,
 )
 
--- src/lib.rt:381:1
 returns-2 : tie.Need-returns-2
 returns-2 c = (
   simp (

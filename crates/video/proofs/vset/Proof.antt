@@ -11,23 +11,18 @@ use borrow.Author.Needs.{needs}
 use Rattle.video.proofs.vset.Statement.{statement}
 use Rattle.video.proofs.vset.Tie as tie
 
--- src/lib.rt:342:36
 selected-requires : tie.Need-selected-requires
 selected-requires c κs = search needs
 
--- src/lib.rt:342:57
 selected-requires-2 : tie.Need-selected-requires-2
 selected-requires-2 c κs = search needs
 
--- src/lib.rt:342:25
 truth-requires : tie.Need-truth-requires
 truth-requires c κs = search needs
 
--- src/lib.rt:342:5
 formed-requires : tie.Need-formed-requires
 formed-requires c κs = search needs
 
--- src/lib.rt:334:1
 returns : tie.Need-returns
 unfolding vsetOf
 returns c = simp (c .formed .ensures, c .before .truth .ensures .0, c .before .before .selected2 .ensures .0, c .before .before .before .selected .ensures .0)

@@ -15,15 +15,12 @@ use borrow.Author.Needs.{needs}
 use Rattle.video.proofs.vset_lanes.Statement.{statement}
 use Rattle.video.proofs.vset_lanes.Tie as tie
 
--- src/lib.rt:443:14
 held-requires : tie.Need-held-requires
 held-requires c κs = search needs
 
--- src/lib.rt:443:5
 group-requires : tie.Need-group-requires
 group-requires c κs = search needs
 
--- src/lib.rt:440:1
 returns : tie.Need-returns
 returns c = rw (c .group .ensures) (stand-group (c .before .before .args .l) (c .before .held .result) (λ i. pos (bit (laneHolds (c .before .before .args .cmp) (c .before .before .args .l) (c .before .before .args .a) (c .before .before .args .b) i))) (c .before .before .args .c) (c .before .held .ensures .0) ∙ sym (vset-group (c .before .before .args .cmp) (c .before .before .args .l) (c .before .before .args .a) (c .before .before .args .b) (c .before .before .args .c)))
 
