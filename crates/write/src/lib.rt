@@ -549,23 +549,23 @@ fn head_texts(i: Instruction) -> [u64; 6]
             dtype,
             sat,
             scalar,
-        } => arithmetic_head(op, dtype, sat, scalar),
-        Instruction::Vset { cmp, scalar } => vset_head(cmp, scalar),
-        Instruction::VsetLanes { cmp, lanes } => vset_lanes_head(cmp, lanes),
+        } => return arithmetic_head(op, dtype, sat, scalar),
+        Instruction::Vset { cmp, scalar } => return vset_head(cmp, scalar),
+        Instruction::VsetLanes { cmp, lanes } => return vset_lanes_head(cmp, lanes),
         Instruction::ArithmeticLanes {
             op,
             dtype,
             sat,
             lanes,
-        } => arithmetic_lanes_head(op, dtype, sat, lanes),
+        } => return arithmetic_lanes_head(op, dtype, sat, lanes),
         Instruction::Set {
             dtype,
             d,
             comparison,
-        } => set_head(dtype, d, comparison),
-        Instruction::Setp { d, comparison } => setp_head(d, comparison),
-        Instruction::Selp { choice, c } => selp_head(choice, c),
-        Instruction::Slct { ctype, choice, c } => slct_head(ctype, choice, c),
+        } => return set_head(dtype, d, comparison),
+        Instruction::Setp { d, comparison } => return setp_head(d, comparison),
+        Instruction::Selp { choice, c } => return selp_head(choice, c),
+        Instruction::Slct { ctype, choice, c } => return slct_head(ctype, choice, c),
     }
 }
 
@@ -573,14 +573,17 @@ fn operand_texts(i: Instruction) -> [u64; 8]
     ensures { λ m. ⌜ spelled m ≡ operandsText (operandTrees i) ⌝ }
 {
     match i {
-        Instruction::Arithmetic { scalar, .. } => scalar_texts(scalar),
-        Instruction::Vset { scalar, .. } => scalar_texts(scalar),
-        Instruction::VsetLanes { lanes, .. } => lanes_texts(lanes),
-        Instruction::ArithmeticLanes { lanes, .. } => lanes_texts(lanes),
-        Instruction::Set { d, comparison, .. } => sources_texts(word_piece(d), comparison),
-        Instruction::Setp { d, comparison } => sources_texts(destination_piece(d), comparison),
-        Instruction::Selp { choice, c } => choice_texts(choice, further(pred_piece(c))),
-        Instruction::Slct { choice, c, .. } => choice_texts(choice, further(word_piece(c))),
+        Instruction::Arithmetic { scalar, .. } => return scalar_texts(scalar),
+        Instruction::Vset { scalar, .. } => return scalar_texts(scalar),
+        Instruction::VsetLanes { lanes, .. } => return lanes_texts(lanes),
+        Instruction::ArithmeticLanes { lanes, .. } => return lanes_texts(lanes),
+        Instruction::Set { d, comparison, .. } => return sources_texts(word_piece(d), comparison),
+        Instruction::Setp { d, comparison } => return sources_texts(
+            destination_piece(d),
+            comparison,
+        ),
+        Instruction::Selp { choice, c } => return choice_texts(choice, further(pred_piece(c))),
+        Instruction::Slct { choice, c, .. } => return choice_texts(choice, further(word_piece(c))),
     }
 }
 

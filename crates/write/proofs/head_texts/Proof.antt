@@ -112,25 +112,25 @@ head-texts-spec =
     (tie.spec
     enum-known-i
     arithmetic-head-requires
+    returns
     enum-known-i-2
     vset-head-requires
+    returns-2
     enum-known-i-3
     vset-lanes-head-requires
+    returns-3
     enum-known-i-4
     arithmetic-lanes-head-requires
+    returns-4
     enum-known-i-5
     set-head-requires
+    returns-5
     enum-known-i-6
     setp-head-requires
+    returns-6
     enum-known-i-7
     selp-head-requires
+    returns-7
     enum-known-i-8
     slct-head-requires
-    returns
-    returns-2
-    returns-3
-    returns-4
-    returns-5
-    returns-6
-    returns-7
     returns-8)

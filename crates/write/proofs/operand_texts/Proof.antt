@@ -120,31 +120,31 @@ operand-texts-spec =
     (tie.spec
     enum-known-i
     scalar-texts-requires
+    returns
     enum-known-i-2
     scalar-texts-requires-2
+    returns-2
     enum-known-i-3
     lanes-texts-requires
+    returns-3
     enum-known-i-4
     lanes-texts-requires-2
+    returns-4
     enum-known-i-5
     word-piece-requires
     sources-texts-requires
+    returns-5
     enum-known-i-6
     destination-piece-requires
     sources-texts-requires-2
+    returns-6
     enum-known-i-7
     pred-piece-requires
     further-requires
     choice-texts-requires
+    returns-7
     enum-known-i-8
     word-piece-requires-2
     further-requires-2
     choice-texts-requires-2
-    returns
-    returns-2
-    returns-3
-    returns-4
-    returns-5
-    returns-6
-    returns-7
     returns-8)
