@@ -48,7 +48,7 @@ use Rattle.heads.specs.Rows.{nameAt, past, wholeOf, scalarOf, lanesOf, c
 use Rattle.names.specs.Back.{opcodeName, opcode-complete, video-complete, set-type-complete, type-complete, six-complete, cmp-complete, bool-complete, op2-complete}
 use Rattle.heads.specs.NameLaws.{op2-none, op2-sat, Skips, type-skips, set-type-skips, ftz-bool}
 
--- ==== scalar arithmetic, vset, vset2, vset4
+-- ==== scalar arithmetic, vset, and the forms with 2 and 4
 
 sides-complete : (h : Head) (i : ℕ) (a b : VideoType) → nameAt h i ≡ codeOf (videoTypeName a) → nameAt h (i + 1) ≡ codeOf (videoTypeName b) → sidesAt h i ≡ Sides.Are a b
 unfolding sidesAt sidesBy

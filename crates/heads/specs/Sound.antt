@@ -10,6 +10,7 @@ use lib.Dec.{eqb, ltb}
 use lib.ListN.{length, getD, take, drop, replicate, drop-of-length-le}
 use Rattle.base.specs.Pack.{codeOf, isShortName, CodeOf}
 use Rattle.base.specs.Text.{bytes}
+use Rattle.base.specs.Values.{StandsAt}
 use Rattle.record.specs.declared.VideoType.{VideoType}
 use Rattle.record.specs.declared.SlctType
 use Rattle.record.specs.declared.SlctType.{SlctType}
@@ -17,11 +18,8 @@ use Rattle.record.specs.declared.DataType.{DataType}
 use Rattle.record.specs.declared.CmpOp.{CmpOp}
 use Rattle.record.specs.declared.Cmp6.{Cmp6}
 use Rattle.record.specs.declared.Arith.{Arith}
-use Rattle.record.specs.declared.LaneArith
 use Rattle.record.specs.declared.LaneArith.{LaneArith}
-use Rattle.record.specs.declared.Arith.the-variants.{Vadd, Vsub, Vabsdiff, Vmin, Vmax}
 use Rattle.record.specs.declared.LaneWidth.{LaneWidth}
-use Rattle.record.specs.declared.LaneWidth.the-variants.{Half, Byte}
 use Rattle.record.specs.declared.Combination.{Combination}
 use Rattle.record.specs.declared.Combination.the-variants.{Alone, With}
 use Rattle.record.specs.declared.Destination.the-variants.{One}
@@ -73,7 +71,7 @@ use Rattle.heads.specs.declared.Found.{Found}
 use Rattle.names.specs.Back.{opcodeOf, videoOf, setTypeOf, typeOf, sixOf, cmpOf, boolOf, op2Of}
 use Rattle.heads.specs.Tables.{slctTypeOf, satCode, ftzCode, addCode, s32Code, f32Code}
 use Rattle.heads.specs.Rows.{nameAt, past, wholeOf, scalarOf, lanesOf, comparisonOf, sidesBy, sidesAt, comparedBy, comparedOf, endingBy, endingAt, satEnd, typedBy, typedOf, arithmeticBy, arithmeticFrom, arithmeticOf, vsetBy, vsetOf, lanesBy, lanesRow, laneArithmeticBy, laneArithmeticFrom, laneArithmeticOf, testAt, testedBy, testedOf, setBy, setAt, setFrom, setOf, setpBy, setpAt, setpFrom, setpOf, selpBy, selpOf, slctBy, slctAt, slctOf, readOf, foundOf, rowBy, rowOf}
-use Rattle.names.specs.Back.{opcodeName, opcode-complete, opcode-sound, video-sound, set-type-sound, type-sound, six-sound, cmp-sound, bool-sound, op2-sound}
+use Rattle.names.specs.Back.{opcodeName, opcodes as known, opcode-complete, opcode-sound, video-sound, set-type-sound, type-sound, six-sound, cmp-sound, bool-sound, op2-sound}
 
 -- ==== the names that a head keeps
 
@@ -434,42 +432,21 @@ module _ (P : Name → Type 0) where
 abbrev Opens : Name → Type 0
 Opens n = (op : Opcode) × (n ≡ opcodeName op)
 
-listed-opens : (n : Name) → Listed n opcodes → Opens n
-listed-opens n l =
-    of-listed Opens ((Opcode.Scalar Vadd, refl), ((Opcode.Scalar Vsub, refl), ((Opcode.Scalar Vabsdiff, refl), ((Opcode.Scalar Vmin, refl), ((Opcode.Scalar Vmax, refl), ((Opcode.Vset, refl), ((Opcode.Lanes Half, refl), ((Opcode.Lanes Byte, refl), ((Opcode.LaneArithmetic (LaneArith.Scalar Vadd) Half, refl), ((Opcode.LaneArithmetic (LaneArith.Scalar Vsub) Half, refl), ((Opcode.LaneArithmetic LaneArith.Vavrg Half, refl), ((Opcode.LaneArithmetic (LaneArith.Scalar Vabsdiff) Half, refl), ((Opcode.LaneArithmetic (LaneArith.Scalar Vmin) Half, refl), ((Opcode.LaneArithmetic (LaneArith.Scalar Vmax) Half, refl), ((Opcode.LaneArithmetic (LaneArith.Scalar Vadd) Byte, refl), ((Opcode.LaneArithmetic (LaneArith.Scalar Vsub) Byte, refl), ((Opcode.LaneArithmetic LaneArith.Vavrg Byte, refl), ((Opcode.LaneArithmetic (LaneArith.Scalar Vabsdiff) Byte, refl), ((Opcode.LaneArithmetic (LaneArith.Scalar Vmin) Byte, refl), ((Opcode.LaneArithmetic (LaneArith.Scalar Vmax) Byte, refl), ((Opcode.Set, refl), ((Opcode.Setp, refl), ((Opcode.Selp, refl), ((Opcode.Slct, refl), tt))))))))))))))))))))))))
-    l
+-- the opcodes of the document are those that the code knows, in the same order
+every-opens : (l : List Opcode) → Every Opens (map opcodeName l)
+every-opens [] = tt
+every-opens (op ∷ l) = ((op, refl), every-opens l)
 
--- past the first k
-past-listed : (k : ℕ) {n : Name} (ns : List Name) → Listed n (drop k ns) → Listed n ns
-past-listed zero ns h = h
-past-listed (suc k) [] h = h
-past-listed (suc k) (m ∷ ns) h = later (past-listed k ns h)
+listed-opens : (n : Name) → Listed n opcodes → Opens n
+listed-opens n l = of-listed Opens (every-opens (known .list)) l
+
+listed-at : (l : List Opcode) (i : ℕ) (op : Opcode) → StandsAt i l op → Listed (opcodeName op) (map opcodeName l)
+listed-at [] i op h = absurd h
+listed-at (o ∷ l) zero op h = here (ap opcodeName (sym h))
+listed-at (o ∷ l) (suc i) op h = later (listed-at l i op h)
 
 opcode-listed : (op : Opcode) → Listed (opcodeName op) opcodes
-opcode-listed (Opcode.Scalar Vadd) = past-listed 0 opcodes (here refl)
-opcode-listed (Opcode.Scalar Vsub) = past-listed 1 opcodes (here refl)
-opcode-listed (Opcode.Scalar Vabsdiff) = past-listed 2 opcodes (here refl)
-opcode-listed (Opcode.Scalar Vmin) = past-listed 3 opcodes (here refl)
-opcode-listed (Opcode.Scalar Vmax) = past-listed 4 opcodes (here refl)
-opcode-listed Opcode.Vset = past-listed 5 opcodes (here refl)
-opcode-listed (Opcode.Lanes Half) = past-listed 6 opcodes (here refl)
-opcode-listed (Opcode.Lanes Byte) = past-listed 7 opcodes (here refl)
-opcode-listed (Opcode.LaneArithmetic (LaneArith.Scalar Vadd) Half) = past-listed 8 opcodes (here refl)
-opcode-listed (Opcode.LaneArithmetic (LaneArith.Scalar Vsub) Half) = past-listed 9 opcodes (here refl)
-opcode-listed (Opcode.LaneArithmetic LaneArith.Vavrg Half) = past-listed 10 opcodes (here refl)
-opcode-listed (Opcode.LaneArithmetic (LaneArith.Scalar Vabsdiff) Half) = past-listed 11 opcodes (here refl)
-opcode-listed (Opcode.LaneArithmetic (LaneArith.Scalar Vmin) Half) = past-listed 12 opcodes (here refl)
-opcode-listed (Opcode.LaneArithmetic (LaneArith.Scalar Vmax) Half) = past-listed 13 opcodes (here refl)
-opcode-listed (Opcode.LaneArithmetic (LaneArith.Scalar Vadd) Byte) = past-listed 14 opcodes (here refl)
-opcode-listed (Opcode.LaneArithmetic (LaneArith.Scalar Vsub) Byte) = past-listed 15 opcodes (here refl)
-opcode-listed (Opcode.LaneArithmetic LaneArith.Vavrg Byte) = past-listed 16 opcodes (here refl)
-opcode-listed (Opcode.LaneArithmetic (LaneArith.Scalar Vabsdiff) Byte) = past-listed 17 opcodes (here refl)
-opcode-listed (Opcode.LaneArithmetic (LaneArith.Scalar Vmin) Byte) = past-listed 18 opcodes (here refl)
-opcode-listed (Opcode.LaneArithmetic (LaneArith.Scalar Vmax) Byte) = past-listed 19 opcodes (here refl)
-opcode-listed Opcode.Set = past-listed 20 opcodes (here refl)
-opcode-listed Opcode.Setp = past-listed 21 opcodes (here refl)
-opcode-listed Opcode.Selp = past-listed 22 opcodes (here refl)
-opcode-listed Opcode.Slct = past-listed 23 opcodes (here refl)
+opcode-listed op = listed-at (known .list) (known .listed op .0) op (known .listed op .1)
 
 -- the first name of every instruction is an opcode
 abbrev opcodeNamed : Instruction → Opcode

@@ -1,4 +1,4 @@
--- The names of masks and of selectors of vset2 and vset4 are known by their numbers, each name and no other. Assumes nothing.
+-- The names of masks and of selectors of the forms with 2 and 4 are known by their numbers, each name and no other. Assumes nothing.
 use Prim.Native.Nat.{ℕ, _+_, _*_, _/_, _%_, _<_, _≤_}
 use native.Mathlib.Omega.{arith}
 use mathlib.Core.Path.{_≡_, refl, sym, ap, _∙_}
@@ -127,7 +127,7 @@ mask-short w m = lengthened w (m .lane3) (m .lane2) (m .lane1) (m .lane0)
 pub mask-known : (w : LaneWidth) (m : Mask) (n : Name) → GoodName n → codeOf n ≡ codeOf (maskName w m) → n ≡ maskName w m
 mask-known w m n g e = code-known n (maskName w m) g (named (mask-named w m)) (mask-short w m) e
 
--- ==== selectors of vset2 and vset4
+-- ==== selectors of the forms with 2 and 4
 
 digits-short : (w : LaneWidth) (s : Digits) → length (digitsName w s) ≤ longestName
 digits-short Half s = omega arith

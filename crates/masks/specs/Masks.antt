@@ -1,4 +1,4 @@
--- The code's side of the names of masks and of selectors of vset2 and vset4, kept as numbers. No one has to believe it: laws join it to the names.
+-- The code's side of the names of masks and of selectors of the forms with 2 and 4, kept as numbers. No one has to believe it: laws join it to the names.
 use Prim.Native.Nat.{ℕ, _/_, _%_}
 use mathlib.Core.Bool.{Bool, true, false, cond}
 use mathlib.Core.List.{List, [], _∷_}

@@ -1,4 +1,4 @@
-// Masks and selectors of vset2 and vset4: the number of each one's name, and back.
+// Masks and selectors of the forms with 2 and 4: the number of each one's name, and back.
 use record::Digits;
 use record::LaneWidth;
 use record::Mask;

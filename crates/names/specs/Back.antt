@@ -3,7 +3,7 @@ use Prim.Native.Nat.{ℕ, zero, suc}
 use native.Mathlib.Omega.{arith}
 use mathlib.Core.Path.{_≡_, refl, sym, ap, _∙_}
 use mathlib.Core.Bool.{Bool, true, false, not, _&&_, cond, and-eq-true-iff}
-use mathlib.Core.List.{List, [], _∷_}
+use mathlib.Core.List.{List, [], _∷_, _++_}
 use lib.Dec.{eqb}
 use borrow.Author.Tests.{eq-eqb, ne-eqb, eqb-true, not-true}
 use Rattle.base.specs.Pack.{pack, codeOf, isShortName, CodeOf}
@@ -23,6 +23,7 @@ use Rattle.record.specs.declared.Op2.{Op2}
 use Rattle.record.specs.declared.Arith.the-variants.{Vadd, Vsub, Vabsdiff, Vmin, Vmax}
 use Rattle.record.specs.declared.LaneArith
 use Rattle.record.specs.declared.LaneArith.{LaneArith}
+use Rattle.record.specs.declared.LaneWidth.{LaneWidth}
 use Rattle.record.specs.declared.LaneWidth.the-variants.{Half, Byte}
 use Rattle.record.specs.declared.Selector.{Selector}
 use Rattle.names.specs.declared.Opcode
@@ -124,10 +125,27 @@ opcodeName Opcode.Setp = bytes "setp"
 opcodeName Opcode.Selp = bytes "selp"
 opcodeName Opcode.Slct = bytes "slct"
 
+-- the six of one width
+abbrev six : LaneWidth → List Opcode
+six w =
+    Opcode.LaneArithmetic (LaneArith.Scalar Vadd) w
+    ∷ Opcode.LaneArithmetic (LaneArith.Scalar Vsub) w
+    ∷ Opcode.LaneArithmetic LaneArith.Vavrg w
+    ∷ Opcode.LaneArithmetic (LaneArith.Scalar Vabsdiff) w
+    ∷ Opcode.LaneArithmetic (LaneArith.Scalar Vmin) w
+    ∷ Opcode.LaneArithmetic (LaneArith.Scalar Vmax) w
+    ∷ []
+
+abbrev opcodeList : List Opcode
+opcodeList =
+    Opcode.Scalar Vadd ∷ Opcode.Scalar Vsub ∷ Opcode.Scalar Vabsdiff ∷ Opcode.Scalar Vmin ∷ Opcode.Scalar Vmax
+    ∷ Opcode.Vset ∷ Opcode.Lanes Half ∷ Opcode.Lanes Byte
+    ∷ (six Half ++ six Byte ++ Opcode.Set ∷ Opcode.Setp ∷ Opcode.Selp ∷ Opcode.Slct ∷ [])
+
 abbrev pub opcodes : Values Opcode
-opcodes = record { list = (Opcode.Scalar Vadd) ∷ (Opcode.Scalar Vsub) ∷ (Opcode.Scalar Vabsdiff) ∷ (Opcode.Scalar Vmin) ∷ (Opcode.Scalar Vmax) ∷ Opcode.Vset ∷ (Opcode.Lanes Half) ∷ (Opcode.Lanes Byte) ∷ (Opcode.LaneArithmetic (LaneArith.Scalar Vadd) Half) ∷ (Opcode.LaneArithmetic (LaneArith.Scalar Vsub) Half) ∷ (Opcode.LaneArithmetic LaneArith.Vavrg Half) ∷ (Opcode.LaneArithmetic (LaneArith.Scalar Vabsdiff) Half) ∷ (Opcode.LaneArithmetic (LaneArith.Scalar Vmin) Half) ∷ (Opcode.LaneArithmetic (LaneArith.Scalar Vmax) Half) ∷ (Opcode.LaneArithmetic (LaneArith.Scalar Vadd) Byte) ∷ (Opcode.LaneArithmetic (LaneArith.Scalar Vsub) Byte) ∷ (Opcode.LaneArithmetic LaneArith.Vavrg Byte) ∷ (Opcode.LaneArithmetic (LaneArith.Scalar Vabsdiff) Byte) ∷ (Opcode.LaneArithmetic (LaneArith.Scalar Vmin) Byte) ∷ (Opcode.LaneArithmetic (LaneArith.Scalar Vmax) Byte) ∷ Opcode.Set ∷ Opcode.Setp ∷ Opcode.Selp ∷ Opcode.Slct ∷ []; listed = place }
+opcodes = record { list = opcodeList; listed = place }
   where
-    place : (t : Opcode) → (i : ℕ) × StandsAt i ((Opcode.Scalar Vadd) ∷ (Opcode.Scalar Vsub) ∷ (Opcode.Scalar Vabsdiff) ∷ (Opcode.Scalar Vmin) ∷ (Opcode.Scalar Vmax) ∷ Opcode.Vset ∷ (Opcode.Lanes Half) ∷ (Opcode.Lanes Byte) ∷ (Opcode.LaneArithmetic (LaneArith.Scalar Vadd) Half) ∷ (Opcode.LaneArithmetic (LaneArith.Scalar Vsub) Half) ∷ (Opcode.LaneArithmetic LaneArith.Vavrg Half) ∷ (Opcode.LaneArithmetic (LaneArith.Scalar Vabsdiff) Half) ∷ (Opcode.LaneArithmetic (LaneArith.Scalar Vmin) Half) ∷ (Opcode.LaneArithmetic (LaneArith.Scalar Vmax) Half) ∷ (Opcode.LaneArithmetic (LaneArith.Scalar Vadd) Byte) ∷ (Opcode.LaneArithmetic (LaneArith.Scalar Vsub) Byte) ∷ (Opcode.LaneArithmetic LaneArith.Vavrg Byte) ∷ (Opcode.LaneArithmetic (LaneArith.Scalar Vabsdiff) Byte) ∷ (Opcode.LaneArithmetic (LaneArith.Scalar Vmin) Byte) ∷ (Opcode.LaneArithmetic (LaneArith.Scalar Vmax) Byte) ∷ Opcode.Set ∷ Opcode.Setp ∷ Opcode.Selp ∷ Opcode.Slct ∷ []) t
+    place : (t : Opcode) → (i : ℕ) × StandsAt i opcodeList t
     place (Opcode.Scalar Vadd) = (0, refl)
     place (Opcode.Scalar Vsub) = (1, refl)
     place (Opcode.Scalar Vabsdiff) = (2, refl)

@@ -168,7 +168,7 @@ lanesOf cmp l a b c =
 
 -- ==== T-01: vadd2, vsub2, vavrg2, vabsdiff2, vmin2, vmax2 and the six with 4, by source document 002: three types, `sat`, `add`, masks and selectors as for vset2 and vset4
 
--- halving rounds down
+-- halving rounds down; negsuc n is -(n + 1)
 abbrev pub halved : ℤ → ℤ
 halved (pos n) = pos (n / 2)
 halved (negsuc n) = negsuc (n / 2)
@@ -177,7 +177,7 @@ halved (negsuc n) = negsuc (n / 2)
 abbrev pub averageZ : ℤ → ℤ → ℤ
 averageZ x y = cond (leZ (pos 0) (x +ℤ y)) (halved (x +ℤ y +ℤ pos 1)) (halved (x +ℤ y))
 
--- the operation on a lane's two numbers, exact
+-- the operation on a lane's two numbers, exact: 002's five that scalar video has, and the average
 abbrev pub laneArithZ : LaneArith → ℤ → ℤ → ℤ
 laneArithZ (LaneArith.Scalar op) x y = arithZ op x y
 laneArithZ LaneArith.Vavrg x y = averageZ x y
@@ -193,14 +193,14 @@ abbrev pub sumZ : ℕ → (ℕ → ℤ) → ℤ
 sumZ zero f = pos 0
 sumZ (suc k) f = f 0 +ℤ sumZ k (λ i. f (suc i))
 
--- what d gets of the exact lane results t: a merge keeps the low bits of the lane, and unmasked lanes keep c's parts.
--- `add` adds the exact masked lane results to c, modulo 2^32
+-- a merge keeps the low bits of the lane, and unmasked lanes keep c's parts.
+-- `add` adds the exact masked lane results, clamped if `sat`, to c, modulo 2^32: t are the lanes' results, which `laneResult` has clamped
 abbrev pub groupOf : Lanes → (ℕ → ℤ) → ℕ → ℕ
 groupOf l t c =
     cond (l .add) (lowOf wordSize (pos c +ℤ sumZ (lanes (l .width)) (λ i. cond (maskAt (l .mask) i) (t i) (pos 0))))
     (merged l (λ i. lowOf (size (l .width)) (t i)) c)
 
--- .. clamped if `sat`: before the merge and before `add`
+-- All twelve, over lane width and operation
 unfoldable pub arithmeticLanesOf : LaneArith → VideoType → Bool → Lanes → ℕ → ℕ → ℕ → ℕ
 arithmeticLanesOf op dtype sat l a b c = groupOf l (laneResult op dtype sat l a b) c
 

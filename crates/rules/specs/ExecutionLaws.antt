@@ -134,7 +134,7 @@ module _ (op : LaneArith) (dtype : VideoType) (sat : Bool) (l : Lanes) (a b c : 
   unfolding arithmeticLanesOf laneResult
   add-sums e = rw e
 
--- vset2 and vset4 give what the twelve would give of results that are 1 or 0
+-- what is joined and what is summed goes by the lanes that there are
 joined-same : (n k : ℕ) (f g : ℕ → ℕ) → ((i : ℕ) → i < k → f i ≡ g i) → joined n k f ≡ joined n k g
 joined-same n zero f g h = refl
 joined-same n (suc k) f g h = rw (h 0 (omega arith), joined-same n k (λ i. f (suc i)) (λ i. g (suc i)) (λ i p. h (suc i) (omega arith))) refl
@@ -159,6 +159,7 @@ sum-bits (suc k) m h = rw (sum-bits k (λ i. m (suc i)) (λ i. h (suc i))) (firs
     first true t = refl
     first false t = refl
 
+-- vset2 and vset4 give what the twelve would give of results that are 1 or 0
 pub vset-group : (cmp : Cmp6) (l : Lanes) (a b c : ℕ) → lanesOf cmp l a b c ≡ groupOf l (λ i. pos (bit (laneHolds cmp l a b i))) c
 unfolding lanesOf
 vset-group cmp l a b c =

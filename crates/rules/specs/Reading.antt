@@ -90,7 +90,7 @@ pub record Relates (l : List ℕ) (m : Record) : Type 0 where
 
 -- ==== refusals 1 to 7, each looked at only when the earlier ones don't apply
 
--- Read, written and executed; T-01 adds the twelve in the third row
+-- Read, written and executed; T-01 adds the twelve in the third and fourth rows (Refusals: none new)
 abbrev pub opcodes : List Name
 opcodes =
     bytes "vadd" ∷ bytes "vsub" ∷ bytes "vabsdiff" ∷ bytes "vmin" ∷ bytes "vmax"
