@@ -1,4 +1,4 @@
--- The code's side: an exact number z is kept as z + 2^40 in 64 bits, lanes are kept in arrays of four. Nobody has to believe these: laws join them to the rules.
+-- The code's side: an exact number z is kept as z + 2^36 in 64 bits, lanes are kept in arrays of four. Nobody has to believe these: laws join them to the rules.
 use Prim.Native.Nat.{ℕ, _+_, _%_, _^_, _<_, _≤_}
 use mathlib.Core.Path.{_≡_}
 use mathlib.Core.List.{List}
@@ -10,7 +10,7 @@ use Rattle.rules.specs.Numbers.{wordSize, size, lanes, joined}
 
 -- what every number is moved up by: a multiple of 2^32, far over every sum
 abbrev pub bias : ℕ
-bias = 2 ^ 40
+bias = 2 ^ 36
 
 -- the exact number that x stands for
 abbrev pub exactly : ℕ → ℤ

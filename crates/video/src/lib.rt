@@ -1,5 +1,5 @@
 // Scalar video, and the forms with 2 and 4 lanes, as functions of the numbers that the registers hold.
-// Inside, an exact number z is kept as z + 2^40, so that none is below zero.
+// Inside, an exact number z is kept as z + 2^36, so that none is below zero.
 use record::Arith;
 use record::Cmp6;
 use record::Digits;
@@ -19,12 +19,13 @@ ghost use mathlib.Core.Bool.{cond};
 ghost use Prim.Native.Nat.{_+_, _%_, _^_, _<_, _≤_};
 ghost use lib.IntN.{pos, _+ℤ_, _-ℤ_};
 ghost use lib.ListN.{getD};
+ghost use Rattle.base.specs.Lists.{tab};
 ghost use Rattle.rules.specs.Numbers.{wordSize, size, lanes, partAt, exactOf, isSigned, lowOf, minZ, maxZ, bit, holdsZ};
 ghost use Rattle.rules.specs.Execution.{selectorWidth, selectorPart, selectedOf, arithZ, lowestZ, highestZ, formSize, clampedOf, op2Z, replaced, formOf, arithmeticOf, vsetOf, maskAt, numbered, laneNumber, laneHolds, merged, lanesOf, averageZ, laneArithZ, laneResult, sumZ, groupOf, arithmeticLanesOf};
 ghost use Rattle.video.specs.Exact.{bias, exactly, Near, Wide, StandFor, AllNear, AllWide, rejoinedOf};
 
-// What every exact number is moved up by: 2^40.
-const BIAS: u64 = 1099511627776;
+// What every exact number is moved up by: 2^36.
+const BIAS: u64 = 68719476736;
 // How many values a half and a byte have.
 const HALF_SIZE: u32 = 65536;
 
@@ -397,17 +398,24 @@ fn total(w: LaneWidth, m: Mask, t: [u64; 4]) -> u64
     }
 }
 
+fn parts(w: LaneWidth, x: u32) -> [u32; 4]
+    ensures { λ r. ⌜ r ≡ tab 4 (partAt (size w) x) ⌝ }
+{
+    [part(w, x, 0), part(w, x, 1), part(w, x, 2), part(w, x, 3)]
+}
+
 // Masked lanes get the low bits of their results, the others keep c's part.
 fn merge(l: Lanes, t: [u64; 4], c: u32) -> u32
     ensures { λ r. ⌜ r ≡ merged l (λ i. lowOf (size (l .width)) (exactly (getD t i 0))) c ⌝ }
 {
     let w = l.width;
     let m = l.mask;
+    let k = parts(w, c);
     let v = [
-        either(m.lane0, low_part(w, t[0]), part(w, c, 0)),
-        either(m.lane1, low_part(w, t[1]), part(w, c, 1)),
-        either(m.lane2, low_part(w, t[2]), part(w, c, 2)),
-        either(m.lane3, low_part(w, t[3]), part(w, c, 3)),
+        either(m.lane0, low_part(w, t[0]), k[0]),
+        either(m.lane1, low_part(w, t[1]), k[1]),
+        either(m.lane2, low_part(w, t[2]), k[2]),
+        either(m.lane3, low_part(w, t[3]), k[3]),
     ];
     rejoin(w, v)
 }
