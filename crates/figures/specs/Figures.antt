@@ -1,4 +1,4 @@
--- Document 01, "Bench figures": the starred ones, and those of request T-01, as one list with one claim. Each is a record with its files, through `run`, and the whole
+-- Document 01, "Bench figures": the starred ones; and fourteen for request T-01, which gives none itself: they came with its landing. One list with one claim. Each is a record with its files, through `run`, and the whole
 -- outcome. `%r0`, `%r1` and `%r2` hold a, b and c; d is `%r3`. Predicate 0 holds c of setp; its places are 1 and 2.
 use Prim.Native.Nat.{ℕ}
 use mathlib.Core.Path.{_≡_, refl}
@@ -100,7 +100,7 @@ b0123 = record { lane0 = 3; lane1 = 2; lane2 = 1; lane3 = 0 }
 abbrev b20 : Mask
 b20 = record { lane0 = true; lane1 = false; lane2 = true; lane3 = false }
 
--- ---- the starred figures, and those of T-01
+-- ---- the starred figures, and those for T-01
 
 unfoldable pub figures : List Figure
 figures =
@@ -140,7 +140,7 @@ figures =
       before = lent (four 0xFFFFFFFF 0 0 0) (three 0 1 1);
       left = lent (four 0xFFFFFFFF 0 0 0) (three 0 0 0);
     }
-    -- T-01. vavrg4 all u32, 00FF0102, 01FF0203: 01FF0203; all s32, FFFD8001, 00FE8002: FFFD8002. vavrg2 all s32, FFFF8000, 00008001: FFFF8000
+    -- for T-01. vavrg4 all u32, 00FF0102, 01FF0203: 01FF0203; all s32, FFFD8001, 00FE8002: FFFD8002. vavrg2 all s32, FFFF8000, 00008001: FFFF8000
     ∷ gives (allOf Vavrg Byte U32 false false) 0x00FF0102 0x01FF0203 0 0x01FF0203
     ∷ gives (allOf Vavrg Byte S32 false false) 0xFFFD8001 0x00FE8002 0 0xFFFD8002
     ∷ gives (allOf Vavrg Half S32 false false) 0xFFFF8000 0x00008001 0 0xFFFF8000
@@ -163,7 +163,7 @@ figures =
     ∷ gives (arithmeticLine (Scalar Vmax) Byte U32 U32 U32 false false (fullMask Byte) b0123) 0x01020304 0x02020202 0 0x04030202
     ∷ []
 
--- each figure's record, run on its files, is done and leaves the files that the document gives
+-- each figure's record, run on its files, is done and leaves the files that stand beside it
 pub figures-hold : map (λ (g : Figure). run (g .line) (g .before)) figures ≡ map (λ (g : Figure). outcome done (g .left)) figures
 unfolding figures run isLegal sizesFit predsFit guardHolds after writes arithmeticOf formOf selectedOf exactOf lanesOf laneHolds holdsZ laneResult arithmeticLanesOf combinedOf testOf comparisonOf valueOf eq ofBits ofFields odd
 figures-hold = refl

@@ -1,1 +1,1 @@
-// Only the starred bench figures of document 01 and those of T-01, proved over the definitions: see specs/Figures.antt.
+// Only the starred bench figures of document 01 and fourteen for T-01, proved over the definitions: see specs/Figures.antt.
