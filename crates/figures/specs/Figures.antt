@@ -1,4 +1,4 @@
--- Document 01, "Bench figures": the starred ones; and fourteen for request T-01, which gives none itself: they came with its landing. One list with one claim. Each is a record with its files, through `run`, and the whole
+-- Document 01, "Bench figures": the starred ones; and fourteen for request T-01, which gives none itself: they came with its issue. One list with one claim. Each is a record with its files, through `run`, and the whole
 -- outcome. `%r0`, `%r1` and `%r2` hold a, b and c; d is `%r3`. Predicate 0 holds c of setp; its places are 1 and 2.
 use Prim.Native.Nat.{ℕ}
 use mathlib.Core.Path.{_≡_, refl}

@@ -1,4 +1,4 @@
--- Standard lines over the definition: those of document 01's example listing, and one for each opcode, form and default. One list with one claim.
+-- Standard lines over the definition: those of document 01's example listing, and others of each kind of opcode, form and default. One list with one claim.
 use Prim.Native.Nat.{ℕ}
 use mathlib.Core.Path.{_≡_, refl}
 use mathlib.Core.Bool.{true, false}

@@ -432,13 +432,16 @@ module _ (P : Name → Type 0) where
 abbrev Opens : Name → Type 0
 Opens n = (op : Opcode) × (n ≡ opcodeName op)
 
--- the opcodes of the document are those that the code knows, in the same order
 every-opens : (l : List Opcode) → Every Opens (map opcodeName l)
 every-opens [] = tt
 every-opens (op ∷ l) = ((op, refl), every-opens l)
 
+-- the opcodes of the document are those that the code knows, in the same order
+same-opcodes : map opcodeName (known .list) ≡ opcodes
+same-opcodes = refl
+
 listed-opens : (n : Name) → Listed n opcodes → Opens n
-listed-opens n l = of-listed Opens (every-opens (known .list)) l
+listed-opens n l = of-listed Opens (subst (Every Opens) same-opcodes (every-opens (known .list))) l
 
 listed-at : (l : List Opcode) (i : ℕ) (op : Opcode) → StandsAt i l op → Listed (opcodeName op) (map opcodeName l)
 listed-at [] i op h = absurd h
@@ -446,7 +449,7 @@ listed-at (o ∷ l) zero op h = here (ap opcodeName (sym h))
 listed-at (o ∷ l) (suc i) op h = later (listed-at l i op h)
 
 opcode-listed : (op : Opcode) → Listed (opcodeName op) opcodes
-opcode-listed op = listed-at (known .list) (known .listed op .0) op (known .listed op .1)
+opcode-listed op = subst (Listed (opcodeName op)) same-opcodes (listed-at (known .list) (known .listed op .0) op (known .listed op .1))
 
 -- the first name of every instruction is an opcode
 abbrev opcodeNamed : Instruction → Opcode

@@ -3,7 +3,7 @@ use Prim.Native.Nat.{ℕ, zero, suc}
 use native.Mathlib.Omega.{arith}
 use mathlib.Core.Path.{_≡_, refl, sym, ap, _∙_}
 use mathlib.Core.Bool.{Bool, true, false, not, _&&_, cond, and-eq-true-iff}
-use mathlib.Core.List.{List, [], _∷_, _++_}
+use mathlib.Core.List.{List, [], _∷_, _++_, map}
 use lib.Dec.{eqb}
 use borrow.Author.Tests.{eq-eqb, ne-eqb, eqb-true, not-true}
 use Rattle.base.specs.Pack.{pack, codeOf, isShortName, CodeOf}
@@ -12,7 +12,7 @@ use Rattle.base.specs.Text.{bytes}
 use Rattle.base.specs.Values.{every, StandsAt, Values, at-place, each}
 use Rattle.rules.specs.Shape.{Name}
 use Rattle.rules.specs.Names.{videoTypeName, setTypeName, typeName, sixName, cmpName, boolName, op2Name, arithName, lanesName, laneArithName, selectorName}
-use Rattle.rules.specs.Choices.{videoTypes, setTypes, types, sixes, cmps, boolOps, op2s, selectors}
+use Rattle.rules.specs.Choices.{videoTypes, setTypes, types, sixes, cmps, boolOps, op2s, laneAriths, selectors}
 use Rattle.record.specs.declared.VideoType.{VideoType}
 use Rattle.record.specs.declared.SetType.{SetType}
 use Rattle.record.specs.declared.DataType.{DataType}
@@ -127,14 +127,7 @@ opcodeName Opcode.Slct = bytes "slct"
 
 -- the six of one width
 abbrev six : LaneWidth → List Opcode
-six w =
-    Opcode.LaneArithmetic (LaneArith.Scalar Vadd) w
-    ∷ Opcode.LaneArithmetic (LaneArith.Scalar Vsub) w
-    ∷ Opcode.LaneArithmetic LaneArith.Vavrg w
-    ∷ Opcode.LaneArithmetic (LaneArith.Scalar Vabsdiff) w
-    ∷ Opcode.LaneArithmetic (LaneArith.Scalar Vmin) w
-    ∷ Opcode.LaneArithmetic (LaneArith.Scalar Vmax) w
-    ∷ []
+six w = map (λ op. Opcode.LaneArithmetic op w) (laneAriths .list)
 
 abbrev opcodeList : List Opcode
 opcodeList =

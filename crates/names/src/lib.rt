@@ -1,4 +1,4 @@
-// The names of document 01, each as one number (base/specs/Pack.antt): of opcodes, modifiers and scalar selectors, spelled here and nowhere else in code.
+// The names of document 01 and of T-01, each as one number (base/specs/Pack.antt): of opcodes, modifiers and scalar selectors, spelled here and nowhere else in code.
 // Masks and lane selectors are made of digits and stand in crate masks.
 use record::Arith;
 use record::BoolOp;

@@ -1,4 +1,4 @@
--- The values of each choice in document 01 as a list: a law of every name is then one computed test over it (`each`). Assumes nothing.
+-- The values of each choice in the documents as a list: a law of every name is then one computed test over it (`each`). Assumes nothing.
 use Prim.Native.Nat.{ℕ}
 use mathlib.Core.Path.{refl}
 use mathlib.Core.List.{[], _∷_}

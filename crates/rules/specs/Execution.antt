@@ -139,7 +139,7 @@ maskAt m (suc (suc (suc i))) = m .lane3
 abbrev pub numbered : LaneWidth → ℕ → ℕ → ℕ → ℕ
 numbered w a b k = cond (ltb k (lanes w)) (partAt (size w) a k) (partAt (size w) b (k - lanes w))
 
--- what a selector picks for lane i, as an exact number by the type on the selector's side: the first type for a's selector and the second for
+-- what a selector picks for lane i, as an exact number by the type on the selector's side: T(a) for a's selector and T(b) for
 -- b's, also where a digit of a's selector picks a part of b (000: extractAndSignExt_4(a, b, .asel, .atype))
 abbrev pub laneNumber : LaneWidth → VideoType → Digits → ℕ → ℕ → ℕ → ℤ
 laneNumber w t s a b i = exactOf (isSigned t) (size w) (numbered w a b (digitAt s i))

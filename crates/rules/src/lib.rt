@@ -1,1 +1,1 @@
-// Only definitions: what document 01 says of records, apart from any program. See specs/.
+// Only definitions: what the documents say of records, apart from any program. See specs/.

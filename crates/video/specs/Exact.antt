@@ -8,7 +8,7 @@ use Rattle.record.specs.declared.LaneWidth.{LaneWidth}
 use Rattle.base.specs.Moved.{un}
 use Rattle.rules.specs.Numbers.{wordSize, size, lanes, joined}
 
--- what every number is moved up by: a multiple of 2^32, far over every sum
+-- what every number is moved up by: a multiple of 2^32, and as much as four `Wide` numbers can take away
 abbrev pub bias : ℕ
 bias = 2 ^ 36
 

@@ -386,7 +386,7 @@ fn addend(masked: bool, z: u64) -> u64
 // The sum of the masked lanes' results, which stops at the last lane of the width.
 fn total(w: LaneWidth, m: Mask, t: [u64; 4]) -> u64
     requires { ⌜ AllWide t ⌝ }
-    ensures { λ r. ⌜ (exactly r ≡ sumZ (lanes w) (λ i. cond (maskAt m i) (exactly (getD t i 0)) (pos 0))) × (bias ≤ r + 2 ^ 36) × (r < bias + 2 ^ 36) ⌝ }
+    ensures { λ r. ⌜ (exactly r ≡ sumZ (lanes w) (λ i. cond (maskAt m i) (exactly (getD t i 0)) (pos 0))) × (r < bias + 2 ^ 36) ⌝ }
 {
     let t0 = addend(m.lane0, t[0]);
     let t1 = addend(m.lane1, t[1]);

@@ -64,7 +64,6 @@ returns c = (
     un-up bias 0,
   ),
   omega arith,
-  omega arith,
 )
 
 returns-2 : tie.Need-returns-2
@@ -81,7 +80,6 @@ returns-2 c = (
     c .before .before .before .before .before .before .addend4 .ensures .0,
     un-up bias 0,
   ),
-  omega arith,
   omega arith,
 )
 
