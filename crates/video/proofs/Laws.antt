@@ -2,7 +2,7 @@
 use Prim.Native.Nat.{ℕ, zero, suc, _+_, _-_, _*_, _/_, _%_, _^_, _<_, _≤_}
 use native.Mathlib.Nat.{mod-eq-of-lt}
 use native.Mathlib.Omega.{arith}
-use mathlib.Core.Path.{_≡_, refl, sym, ap, _∙_}
+use mathlib.Core.Path.{_≡_, refl, sym, ap, ap₂, _∙_}
 use mathlib.Core.Bool.{Bool, true, false, cond, _&&_}
 use lib.Dec.{ltb, leb, eqb}
 use lib.IntN.{ℤ, pos, negsuc, _+ℤ_}
@@ -107,6 +107,12 @@ stand-group l t f c h = group-same l (λ i. exactly (getD t i 0)) f c (λ i p. e
     each w (suc (suc (suc zero))) p = h .3
     each Half (suc (suc (suc (suc i)))) p = absurd (omega arith)
     each Byte (suc (suc (suc (suc i)))) p = absurd (omega arith)
+
+-- lanes made by one operation g of two sides are made of what the sides stand for
+pub by-sides : (l : Lanes) (g : ℤ → ℤ → ℤ) (t x y : List ℕ) (p q : ℕ → ℤ) (c : ℕ) → StandFor x p → StandFor y q
+    → StandFor t (λ i. g (exactly (getD x i 0)) (exactly (getD y i 0))) → groupOf l (λ i. exactly (getD t i 0)) c ≡ groupOf l (λ i. g (p i) (q i)) c
+by-sides l g t x y p q c e f h =
+    stand-group l t (λ i. g (p i) (q i)) c (h .0 ∙ ap₂ g (e .0) (f .0), h .1 ∙ ap₂ g (e .1) (f .1), h .2 ∙ ap₂ g (e .2) (f .2), h .3 ∙ ap₂ g (e .3) (f .3))
 
 -- the average of two numbers whose sum z stands for, by the sign of the sum
 pub average-high : (x y z : ℕ) → exactly z ≡ exactly x +ℤ exactly y → bias ≤ z → exactly ((z + bias + 1) / 2) ≡ averageZ (exactly x) (exactly y)

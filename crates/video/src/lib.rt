@@ -21,7 +21,7 @@ ghost use lib.IntN.{pos, _+ℤ_, _-ℤ_};
 ghost use lib.ListN.{getD};
 ghost use Rattle.base.specs.Lists.{tab};
 ghost use Rattle.rules.specs.Numbers.{wordSize, size, lanes, partAt, exactOf, isSigned, lowOf, minZ, maxZ, bit, holdsZ};
-ghost use Rattle.rules.specs.Execution.{selectorWidth, selectorPart, selectedOf, arithZ, lowestZ, highestZ, formSize, clampedOf, op2Z, replaced, formOf, arithmeticOf, vsetOf, maskAt, numbered, laneNumber, laneHolds, merged, lanesOf, averageZ, laneArithZ, laneResult, sumZ, groupOf, arithmeticLanesOf};
+ghost use Rattle.rules.specs.Execution.{selectorWidth, selectorPart, selectedOf, arithZ, lowestZ, highestZ, formSize, clampedOf, op2Z, replaced, formOf, arithmeticOf, vsetOf, maskAt, numbered, laneNumber, merged, lanesOf, averageZ, laneArithZ, sumZ, groupOf, arithmeticLanesOf};
 ghost use Rattle.video.specs.Exact.{bias, exactly, Near, Wide, StandFor, AllNear, AllWide, rejoinedOf};
 
 // What every exact number is moved up by: 2^36.
@@ -433,14 +433,9 @@ fn group(l: Lanes, t: [u64; 4], c: u32) -> u32
 }
 
 // 1 for each lane that holds, 0 for the others.
-fn held(cmp: Cmp6, l: Lanes, a: u32, b: u32) -> [u64; 4]
-    ensures { λ r. ⌜ StandFor r (λ i. pos (bit (laneHolds cmp l a b i))) × AllWide r ⌝ }
+fn held(cmp: Cmp6, x: [u64; 4], y: [u64; 4]) -> [u64; 4]
+    ensures { λ r. ⌜ StandFor r (λ i. pos (bit (holdsZ cmp (exactly (getD x i 0)) (exactly (getD y i 0))))) × AllWide r ⌝ }
 {
-    let w = l.width;
-    let ta = l.atype;
-    let tb = l.btype;
-    let x = picked(w, ta, l.asel, a, b);
-    let y = picked(w, tb, l.bsel, a, b);
     [
         truth(cmp, x[0], y[0]),
         truth(cmp, x[1], y[1]),
@@ -453,7 +448,12 @@ fn held(cmp: Cmp6, l: Lanes, a: u32, b: u32) -> [u64; 4]
 pub fn vset_lanes(cmp: Cmp6, l: Lanes, a: u32, b: u32, c: u32) -> u32
     ensures { λ r. ⌜ r ≡ lanesOf cmp l a b c ⌝ }
 {
-    group(l, held(cmp, l, a, b), c)
+    let w = l.width;
+    let ta = l.atype;
+    let tb = l.btype;
+    let x = picked(w, ta, l.asel, a, b);
+    let y = picked(w, tb, l.bsel, a, b);
+    group(l, held(cmp, x, y), c)
 }
 
 // Halving rounds down, BIAS being even; 1 is added first when the sum is at or above zero.
@@ -487,16 +487,19 @@ fn lane_result(op: LaneArith, signed: bool, sat: bool, n: u64, x: u64, y: u64) -
     clamped(sat, signed, n, apply_lane(op, x, y))
 }
 
-fn results(op: LaneArith, dtype: VideoType, sat: bool, l: Lanes, a: u32, b: u32) -> [u64; 4]
-    ensures { λ r. ⌜ StandFor r (laneResult op dtype sat l a b) × AllWide r ⌝ }
+fn results(
+    op: LaneArith,
+    dtype: VideoType,
+    sat: bool,
+    w: LaneWidth,
+    x: [u64; 4],
+    y: [u64; 4],
+) -> [u64; 4]
+    requires { ⌜ AllNear x × AllNear y ⌝ }
+    ensures { λ r. ⌜ StandFor r (λ i. clampedOf sat (isSigned dtype) (size w) (laneArithZ op (exactly (getD x i 0)) (exactly (getD y i 0)))) × AllWide r ⌝ }
 {
-    let w = l.width;
-    let ta = l.atype;
-    let tb = l.btype;
     let sign = signed(dtype);
     let n = wide(lane_size(w));
-    let x = picked(w, ta, l.asel, a, b);
-    let y = picked(w, tb, l.bsel, a, b);
     [
         lane_result(op, sign, sat, n, x[0], y[0]),
         lane_result(op, sign, sat, n, x[1], y[1]),
@@ -517,5 +520,10 @@ pub fn arithmetic_lanes(
 ) -> u32
     ensures { λ r. ⌜ r ≡ arithmeticLanesOf op dtype sat l a b c ⌝ }
 {
-    group(l, results(op, dtype, sat, l, a, b), c)
+    let w = l.width;
+    let ta = l.atype;
+    let tb = l.btype;
+    let x = picked(w, ta, l.asel, a, b);
+    let y = picked(w, tb, l.bsel, a, b);
+    group(l, results(op, dtype, sat, w, x, y), c)
 }

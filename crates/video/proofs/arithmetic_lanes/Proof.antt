@@ -1,17 +1,24 @@
-use Rattle.video.proofs.arithmetic_lanes.Reads as reads
-use Rattle.rules.specs.Execution.{laneResult}
 use mathlib.Core.Path.{_≡_}
 use Prim.Native.Nat.{ℕ}
 use contract.Lifetimes.{Lfts}
 use borrow.Fn.Kinds.{Dens, endedOf}
 use denote.Triple.Clauses.{AtExit}
+use lib.IntN.{ℤ}
 use Rattle.base.specs.Promise.{one-outcome}
+use Rattle.rules.specs.Numbers.{size, isSigned}
+use Rattle.rules.specs.Execution.{laneNumber, clampedOf, laneArithZ, laneResult, arithmeticLanesOf}
+use Rattle.video.proofs.Laws.{by-sides}
+use Rattle.video.proofs.arithmetic_lanes.Reads as reads
 use Rattle.video.proofs.arithmetic_lanes.Kinds as kinds
-use Rattle.rules.specs.Execution.{arithmeticLanesOf}
-use Rattle.video.proofs.Laws.{stand-group}
 use borrow.Author.Needs.{needs}
 use Rattle.video.proofs.arithmetic_lanes.Statement.{statement}
 use Rattle.video.proofs.arithmetic_lanes.Tie as tie
+
+picked-requires : tie.Need-picked-requires
+picked-requires c κs = search needs
+
+picked-requires-2 : tie.Need-picked-requires-2
+picked-requires-2 c κs = search needs
 
 results-requires : tie.Need-results-requires
 results-requires c κs = search needs
@@ -20,11 +27,18 @@ group-requires : tie.Need-group-requires
 group-requires c κs = search needs
 
 returns : tie.Need-returns
-unfolding arithmeticLanesOf
-returns c = rw (c .group .ensures) (stand-group (c .before .before .args .l) (c .before .results .result) (laneResult (c .before .before .args .op) (c .before .before .args .dtype) (c .before .before .args .sat) (c .before .before .args .l) (c .before .before .args .a) (c .before .before .args .b)) (c .before .before .args .c) (c .before .results .ensures .0))
+unfolding arithmeticLanesOf laneResult
+returns c =
+    let a = c .before .before .before .before .args in
+    rw (c .group .ensures)
+    (by-sides (a .l) (λ (x y : ℤ). clampedOf (a .sat) (isSigned (a .dtype)) (size (a .l .width)) (laneArithZ (a .op) x y))
+    (c .before .results .result) (c .before .before .before .picked .result) (c .before .before .picked2 .result)
+    (laneNumber (a .l .width) (a .l .atype) (a .l .asel) (a .a) (a .b)) (laneNumber (a .l .width) (a .l .btype) (a .l .bsel) (a .a) (a .b)) (a .c)
+    (c .before .before .before .picked .ensures .0) (c .before .before .picked2 .ensures .0) (c .before .results .ensures .0))
 
 pub arithmetic-lanes-spec : {M : Type 1} → statement M
-arithmetic-lanes-spec = tie.close (tie.spec results-requires group-requires returns)
+arithmetic-lanes-spec =
+    tie.close (tie.spec picked-requires picked-requires-2 results-requires group-requires returns)
 
 -- no two outcomes satisfy the contract as it stands in src/lib.rt
 pub arithmetic-lanes-one-outcome :

@@ -1,5 +1,4 @@
 use mathlib.Core.Path.{refl}
-use Rattle.rules.specs.Execution.{laneResult}
 use borrow.Author.Needs.{needs}
 use Rattle.video.proofs.results.Statement.{statement}
 use Rattle.video.proofs.results.Tie as tie
@@ -12,12 +11,6 @@ lane-size-requires c κs = search needs
 
 wide-requires : tie.Need-wide-requires
 wide-requires c κs = search needs
-
-picked-requires : tie.Need-picked-requires
-picked-requires c κs = search needs
-
-picked-requires-2 : tie.Need-picked-requires-2
-picked-requires-2 c κs = search needs
 
 array-read-lane-result : tie.Need-array-read-lane-result
 array-read-lane-result c = search needs
@@ -56,24 +49,16 @@ lane-result-requires-4 : tie.Need-lane-result-requires-4
 lane-result-requires-4 c κs = search needs
 
 returns : tie.Need-returns
-unfolding laneResult
-returns c = simp (
-  c .before .before .before .lane-result .ensures .0,
-  c .before .before .lane-result2 .ensures .0,
-  c .before .lane-result3 .ensures .0,
-  c .lane-result4 .ensures .0,
-  c .before .before .before .before .picked2 .ensures .0 .0,
-  c .before .before .before .before .before .picked .ensures .0 .0,
-  c .before .before .before .before .picked2 .ensures .0 .1,
-  c .before .before .before .before .before .picked .ensures .0 .1,
-  c .before .before .before .before .picked2 .ensures .0 .2,
-  c .before .before .before .before .before .picked .ensures .0 .2,
-  c .before .before .before .before .picked2 .ensures .0 .3,
-  c .before .before .before .before .before .picked .ensures .0 .3,
-  c .before .before .before .before .before .before .wide .ensures .0,
-  c .before .before .before .before .before .before .before .lane-size .ensures .0,
-  c .before .before .before .before .before .before .before .before .signed .ensures,
-)
+returns c =
+    simp (
+      c .lane-result4 .ensures .0,
+      c .before .lane-result3 .ensures .0,
+      c .before .before .lane-result2 .ensures .0,
+      c .before .before .before .lane-result .ensures .0,
+      c .before .before .before .before .wide .ensures .0,
+      c .before .before .before .before .before .lane-size .ensures .0,
+      c .before .before .before .before .before .before .signed .ensures,
+    )
     ((refl, refl, refl, refl), (c .before .before .before .lane-result .ensures .1, c .before .before .lane-result2 .ensures .1, c .before .lane-result3 .ensures .1, c .lane-result4 .ensures .1))
 
 pub results-spec : {M : Type 1} → statement M
@@ -83,8 +68,6 @@ results-spec =
     signed-requires
     lane-size-requires
     wide-requires
-    picked-requires
-    picked-requires-2
     array-read-lane-result
     array-read-lane-result-2
     lane-result-requires

@@ -1,19 +1,25 @@
-use Rattle.video.proofs.vset_lanes.Reads as reads
-use lib.IntN.{pos}
-use Rattle.rules.specs.Numbers.{bit}
-use Rattle.rules.specs.Execution.{laneHolds}
 use mathlib.Core.Path.{_≡_, sym, _∙_}
 use Prim.Native.Nat.{ℕ}
 use contract.Lifetimes.{Lfts}
 use borrow.Fn.Kinds.{Dens, endedOf}
 use denote.Triple.Clauses.{AtExit}
+use lib.IntN.{ℤ, pos}
 use Rattle.base.specs.Promise.{one-outcome}
-use Rattle.video.proofs.vset_lanes.Kinds as kinds
+use Rattle.rules.specs.Numbers.{bit, holdsZ}
+use Rattle.rules.specs.Execution.{laneNumber, laneHolds}
 use Rattle.rules.specs.ExecutionLaws.{vset-group}
-use Rattle.video.proofs.Laws.{stand-group}
+use Rattle.video.proofs.Laws.{by-sides}
+use Rattle.video.proofs.vset_lanes.Reads as reads
+use Rattle.video.proofs.vset_lanes.Kinds as kinds
 use borrow.Author.Needs.{needs}
 use Rattle.video.proofs.vset_lanes.Statement.{statement}
 use Rattle.video.proofs.vset_lanes.Tie as tie
+
+picked-requires : tie.Need-picked-requires
+picked-requires c κs = search needs
+
+picked-requires-2 : tie.Need-picked-requires-2
+picked-requires-2 c κs = search needs
 
 held-requires : tie.Need-held-requires
 held-requires c κs = search needs
@@ -22,10 +28,18 @@ group-requires : tie.Need-group-requires
 group-requires c κs = search needs
 
 returns : tie.Need-returns
-returns c = rw (c .group .ensures) (stand-group (c .before .before .args .l) (c .before .held .result) (λ i. pos (bit (laneHolds (c .before .before .args .cmp) (c .before .before .args .l) (c .before .before .args .a) (c .before .before .args .b) i))) (c .before .before .args .c) (c .before .held .ensures .0) ∙ sym (vset-group (c .before .before .args .cmp) (c .before .before .args .l) (c .before .before .args .a) (c .before .before .args .b) (c .before .before .args .c)))
+unfolding laneHolds
+returns c =
+    let a = c .before .before .before .before .args in
+    rw (c .group .ensures)
+    (by-sides (a .l) (λ (x y : ℤ). pos (bit (holdsZ (a .cmp) x y))) (c .before .held .result) (c .before .before .before .picked .result) (c .before .before .picked2 .result)
+    (laneNumber (a .l .width) (a .l .atype) (a .l .asel) (a .a) (a .b)) (laneNumber (a .l .width) (a .l .btype) (a .l .bsel) (a .a) (a .b)) (a .c)
+    (c .before .before .before .picked .ensures .0) (c .before .before .picked2 .ensures .0) (c .before .held .ensures .0)
+    ∙ sym (vset-group (a .cmp) (a .l) (a .a) (a .b) (a .c)))
 
 pub vset-lanes-spec : {M : Type 1} → statement M
-vset-lanes-spec = tie.close (tie.spec held-requires group-requires returns)
+vset-lanes-spec =
+    tie.close (tie.spec picked-requires picked-requires-2 held-requires group-requires returns)
 
 -- no two outcomes satisfy the contract as it stands in src/lib.rt
 pub vset-lanes-one-outcome :
