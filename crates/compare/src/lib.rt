@@ -270,8 +270,8 @@ pub fn not_below_zero(ctype: SlctType, c: u32) -> bool
 {
     match ctype {
         SlctType::S32 => c < SIGN32,
-        SlctType::F32 { .. } => {
-            let x = single(c);
+        SlctType::F32 { ftz } => {
+            let x = single(flush(ftz, c));
             (0.0 < x) | (0.0 == x)
         }
     }

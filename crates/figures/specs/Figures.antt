@@ -1,11 +1,11 @@
--- Document 01, "Bench figures": the starred ones; and fourteen for request T-01, which gives none itself: they came with its issue. One list with one claim. Each is a record with its files, through `run`, and the whole
+-- Document 01, "Bench figures": the starred ones; fourteen for request T-01, which gives none itself: they came with its issue; and those of T-02. One list with one claim. Each is a record with its files, through `run`, and the whole
 -- outcome. `%r0`, `%r1` and `%r2` hold a, b and c; d is `%r3`. Predicate 0 holds c of setp; its places are 1 and 2.
 use Prim.Native.Nat.{ℕ}
 use mathlib.Core.Path.{_≡_, refl}
 use mathlib.Core.Bool.{Bool, true, false}
 use mathlib.Core.List.{List, [], _∷_, map}
 use lib.ListN.{replicate}
-use lib.Ieee.{eq, ofBits, ofFields, odd}
+use lib.Ieee.{lt, eq, ofBits, ofFields, odd}
 use Rattle.record.specs.Refusals.{isLegal}
 use Rattle.record.specs.Operands.{fullMask, defaultA, defaultB}
 use Rattle.record.specs.declared.Word.{Word}
@@ -15,6 +15,8 @@ use Rattle.record.specs.declared.DataType
 use Rattle.record.specs.declared.DataType.{DataType}
 use Rattle.record.specs.declared.SetType
 use Rattle.record.specs.declared.SetType.{SetType}
+use Rattle.record.specs.declared.SlctType
+use Rattle.record.specs.declared.SlctType.{SlctType}
 use Rattle.record.specs.declared.Cmp6.{Cmp6}
 use Rattle.record.specs.declared.Cmp6.the-variants.{Eq, Lt, Ge}
 use Rattle.record.specs.declared.CmpOp.the-variants.{Six}
@@ -38,10 +40,10 @@ use Rattle.record.specs.declared.Operand
 use Rattle.record.specs.declared.Operand.{Operand}
 use Rattle.record.specs.declared.Destination.the-variants.{Pair}
 use Rattle.record.specs.declared.Instruction.{Instruction}
-use Rattle.record.specs.declared.Instruction.the-variants.{Arithmetic, VsetLanes, ArithmeticLanes, Set, Setp}
+use Rattle.record.specs.declared.Instruction.the-variants.{Arithmetic, VsetLanes, ArithmeticLanes, Set, Setp, Slct}
 use Rattle.record.specs.declared.Record.{Record}
 use Rattle.rules.specs.Numbers.{exactOf, holdsZ}
-use Rattle.rules.specs.Execution.{selectedOf, formOf, arithmeticOf, laneHolds, lanesOf, laneResult, arithmeticLanesOf, valueOf, comparisonOf}
+use Rattle.rules.specs.Execution.{selectedOf, formOf, arithmeticOf, laneHolds, lanesOf, laneResult, arithmeticLanesOf, valueOf, comparisonOf, notBelowZero}
 use Rattle.rules.specs.Executing.{Files, files, done, outcome, combinedOf, testOf, writes, after, sizesFit, predsFit, guardHolds, run}
 
 pub record Figure : Type 0 where
@@ -90,6 +92,21 @@ scalarLine op dtype sat atype btype form =
 abbrev gives : Record → ℕ → ℕ → ℕ → ℕ → Figure
 gives line a b c d = record { line = line; before = lent (four a b c 0) (three 0 0 0); left = lent (four a b c d) (three 0 0 0) }
 
+-- slct.f32.f32 or slct.ftz.f32.f32 by c. What is copied would be flushed: a is 80000001, b is 007FFFFF
+abbrev chosen : Bool → ℕ → ℕ → Figure
+chosen ftz c d =
+    gives
+    (always
+    (Slct (SlctType.F32 ftz)
+    (record { dtype = DataType.F32; d = Operand.Word (r 3); a = Operand.Word (r 0); b = Operand.Word (r 1) }) (r 2))) 0x80000001 0x007FFFFF
+    c d
+
+abbrev picksA : Bool → ℕ → Figure
+picksA ftz c = chosen ftz c 0x80000001
+
+abbrev picksB : Bool → ℕ → Figure
+picksB ftz c = chosen ftz c 0x007FFFFF
+
 -- h01, b0123, b20
 abbrev h01 : Digits
 h01 = record { lane0 = 1; lane1 = 0; lane2 = 0; lane3 = 0 }
@@ -100,7 +117,7 @@ b0123 = record { lane0 = 3; lane1 = 2; lane2 = 1; lane3 = 0 }
 abbrev b20 : Mask
 b20 = record { lane0 = true; lane1 = false; lane2 = true; lane3 = false }
 
--- ---- the starred figures, and those for T-01
+-- ---- the starred figures, and those for T-01 and T-02
 
 unfoldable pub figures : List Figure
 figures =
@@ -161,9 +178,25 @@ figures =
     ∷ gives (arithmeticLine (Scalar Vmin) Half U32 S32 U32 false false (fullMask Half) (defaultA Half)) 0xFFFF0005 0x00010006 0 0xFFFF0005
     -- vmax4 all u32, a `.b0123` 01020304, 02020202: 04030202
     ∷ gives (arithmeticLine (Scalar Vmax) Byte U32 U32 U32 false false (fullMask Byte) b0123) 0x01020304 0x02020202 0 0x04030202
+    -- T-02, slct: c 80000001 gives a with `ftz`, b without; 807FFFFF likewise
+    ∷ picksA true 0x80000001
+    ∷ picksB false 0x80000001
+    ∷ picksA true 0x807FFFFF
+    ∷ picksB false 0x807FFFFF
+    -- 80800000 (the smallest normal number, negative) gives b in both, -0 a; NaN of either sign and -infinity give b
+    ∷ picksB true 0x80800000
+    ∷ picksB false 0x80800000
+    ∷ picksA true 0x80000000
+    ∷ picksA false 0x80000000
+    ∷ picksB true 0x7FC00000
+    ∷ picksB false 0x7FC00000
+    ∷ picksB true 0xFFC00000
+    ∷ picksB false 0xFFC00000
+    ∷ picksB true 0xFF800000
+    ∷ picksB false 0xFF800000
     ∷ []
 
 -- each figure's record, run on its files, is done and leaves the files that stand beside it
 pub figures-hold : map (λ (g : Figure). run (g .line) (g .before)) figures ≡ map (λ (g : Figure). outcome done (g .left)) figures
-unfolding figures run isLegal sizesFit predsFit guardHolds after writes arithmeticOf formOf selectedOf exactOf lanesOf laneHolds holdsZ laneResult arithmeticLanesOf combinedOf testOf comparisonOf valueOf eq ofBits ofFields odd
+unfolding figures run isLegal sizesFit predsFit guardHolds after writes arithmeticOf formOf selectedOf exactOf lanesOf laneHolds holdsZ laneResult arithmeticLanesOf combinedOf testOf comparisonOf valueOf notBelowZero lt eq ofBits ofFields odd
 figures-hold = refl

@@ -1,1 +1,1 @@
-// Only the starred bench figures of document 01 and fourteen for T-01, proved over the definitions: see specs/Figures.antt.
+// Only the starred bench figures of document 01 and those for T-01 and T-02, proved over the definitions: see specs/Figures.antt.

@@ -1,4 +1,4 @@
--- Document 01, "What execution does": its bullets in their order, and request T-01 after vset2 and vset4, as functions of what the registers hold before. Each sentence stands above
+-- Document 01, "What execution does": its bullets in their order, with request T-01 after vset2 and vset4 and T-02 in slct, as functions of what the registers hold before. Each sentence stands above
 -- what says it; those on files, guards and places are in Executing.antt. Words are untyped, so an f32 is its bits. Subnormal numbers are kept.
 use Prim.Native.Nat.{ℕ, zero, suc, _+_, _-_, _/_, _%_}
 use mathlib.Core.Bool.{Bool, true, false, not, _&&_, _||_, cond}
@@ -295,11 +295,14 @@ setOf dtype t = cond t (trueOf dtype) 0
 abbrev pub selpOf : ℕ → ℕ → ℕ → ℕ
 selpOf c a b = cond (eqb c 1) a b
 
--- c is at or above zero; f32 zero of either sign counts as zero, NaN picks b. `ftz` has no effect
+-- c is at or above zero; f32 zero of either sign counts as zero, NaN picks b.
+-- T-02: with `ftz` a subnormal c of either sign picks a; document 01's sentence that `ftz` has no effect in slct is withdrawn
 unfoldable pub notBelowZero : SlctType → ℕ → Bool
 notBelowZero SlctType.S32 c = leZ (pos 0) (exactOf true wordSize c)
-notBelowZero (SlctType.F32 ftz) c = lt (ofBits binary32 0) (ofBits binary32 c) || eq (ofBits binary32 0) (ofBits binary32 c)
+notBelowZero (SlctType.F32 ftz) c =
+    let x = ofBits binary32 (flushed ftz c) in
+    lt (ofBits binary32 0) x || eq (ofBits binary32 0) x
 
--- slct copies a's bits if c is at or above zero, else b's
+-- slct copies a's bits if c is at or above zero, else b's; what is copied is never flushed
 abbrev pub slctOf : SlctType → ℕ → ℕ → ℕ → ℕ
 slctOf ctype c a b = cond (notBelowZero ctype c) a b

@@ -1,9 +1,10 @@
 -- The comparison of floats by their bits alone: which patterns are NaN is `nan-pattern` of FloatOrder.antt; here what the forms of a comparison
 -- give with a NaN and without one, both formats at once. Assumes nothing.
 use Prim.Native.Nat.{ℕ, _%_, _<_, _≤_}
-use mathlib.Core.Path.{_≡_, refl, sym, ap}
-use mathlib.Core.Bool.{Bool, true, false, not, cond, _&&_, _||_, and-true, and-comm}
-use lib.IntN.{ℤ, pos, negsuc}
+use mathlib.Core.Path.{_≡_, refl, sym, ap, _∙_}
+use mathlib.Core.Bool.{Bool, true, false, not, cond, _&&_, _||_, and-true, and-comm, and-eq-true-iff, true≢false}
+use native.Mathlib.Omega.{arith}
+use lib.IntN.{ℤ, pos, negsuc, negℤ}
 use lib.Signed.{ltZ, leZ}
 use lib.Dec.{ltb, leb}
 use lib.Ieee.{Float, Format, binary32, binary64, isNan, ofBits, lt, eq, top, hid}
@@ -15,9 +16,11 @@ use Rattle.record.specs.declared.CmpF.{CmpF}
 use Rattle.record.specs.declared.CmpF.the-variants.{Equ, Neu, Ltu, Leu, Gtu, Geu, Num, Nan}
 use Rattle.record.specs.declared.CmpOp
 use Rattle.record.specs.declared.CmpOp.{CmpOp}
+use Rattle.record.specs.declared.SlctType
+use Rattle.record.specs.declared.SlctType.{SlctType}
 use Rattle.rules.specs.Numbers.{holdsZ}
-use Rattle.rules.specs.Execution.{flushed, unordered, floatHolds}
-use Rattle.rules.specs.FloatOrder.{signMagnitude, lt-pattern, eq-pattern, lt-nan-left, lt-nan-right, eq-nan-left, eq-nan-right}
+use Rattle.rules.specs.Execution.{flushed, unordered, floatHolds, notBelowZero, slctOf}
+use Rattle.rules.specs.FloatOrder.{signMagnitude, nan-pattern, lt-pattern, eq-pattern, lt-nan-left, lt-nan-right, eq-nan-left, eq-nan-right}
 
 -- ==== with a NaN
 
@@ -114,3 +117,46 @@ flushed-stays x h = rw (le-ltb (x % top binary32) (hid binary32) h)
 
 pub unflushed-stays : (x : ℕ) → flushed false x ≡ x
 unflushed-stays x = refl
+
+-- ==== T-02: `ftz` in slct
+
+-- an f32 that is below the smallest normal number without its sign, and no zero
+abbrev pub subnormal : ℕ → Bool
+subnormal x = ltb 0 (x % top binary32) && ltb (x % top binary32) (hid binary32)
+
+-- a zero of either sign is at or above zero
+zero-not-below : (x : ℕ) → x % top binary32 ≡ 0 → lt (ofBits binary32 0) (ofBits binary32 x) || eq (ofBits binary32 0) (ofBits binary32 x) ≡ true
+unfolding holdsZ
+zero-not-below x h =
+    let plain : isNan (ofBits binary32 x) ≡ false = rw (nan-pattern binary32 x, h) in
+    let zero : (negative : Bool) → leZ (pos 0) (cond negative (negℤ (pos 0)) (pos 0)) ≡ true = λ negative. elim negative [ true ↦ refl | false ↦ refl ] in
+    ordered-by-bits binary32 0 x (nan-pattern binary32 0) plain Le ∙ rw h (zero (leb (top binary32) x))
+
+flushed-picks-a : (c a b : ℕ) → c % top binary32 < hid binary32 → slctOf (SlctType.F32 true) c a b ≡ a
+unfolding notBelowZero
+flushed-picks-a c a b h =
+    let zero : (negative : Bool) → cond negative (top binary32) 0 % top binary32 ≡ 0 = λ negative. elim negative [ true ↦ refl | false ↦ refl ] in
+    rw (flushed-to-zero c h, zero-not-below (cond (leb (top binary32) c) (top binary32) 0) (zero (leb (top binary32) c)))
+
+-- with `ftz` a subnormal c of either sign picks a
+pub subnormal-picks-a : (c a b : ℕ) → subnormal c ≡ true → slctOf (SlctType.F32 true) c a b ≡ a
+subnormal-picks-a c a b h =
+    flushed-picks-a c a b (ltb-true (c % top binary32) (hid binary32) (and-eq-true-iff (ltb 0 (c % top binary32)) (ltb (c % top binary32) (hid binary32)) .0 h .1))
+
+-- for every c that is not subnormal `ftz` makes no difference
+pub ftz-makes-no-difference : (c a b : ℕ) → subnormal c ≡ false → slctOf (SlctType.F32 true) c a b ≡ slctOf (SlctType.F32 false) c a b
+unfolding notBelowZero
+ftz-makes-no-difference c a b h = go (ltb 0 (c % top binary32)) (ltb (c % top binary32) (hid binary32)) refl refl h
+  where
+    go : (s t : Bool) → ltb 0 (c % top binary32) ≡ s → ltb (c % top binary32) (hid binary32) ≡ t → s && t ≡ false
+        → slctOf (SlctType.F32 true) c a b ≡ slctOf (SlctType.F32 false) c a b
+    go true true e k n = absurd (true≢false n)
+    go true false e k n = rw (flushed-stays c (ltb-false (c % top binary32) (hid binary32) k))
+    go false t e k n =
+        let z : c % top binary32 ≡ 0 = omega (arith, ltb-false 0 (c % top binary32) e) in
+        flushed-picks-a c a b (omega arith) ∙ rw (zero-not-below c z)
+
+-- without `ftz` c is looked at as document 01 says
+pub without-ftz : (c : ℕ) → notBelowZero (SlctType.F32 false) c ≡ (lt (ofBits binary32 0) (ofBits binary32 c) || eq (ofBits binary32 0) (ofBits binary32 c))
+unfolding notBelowZero
+without-ftz c = refl

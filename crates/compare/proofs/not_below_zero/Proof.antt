@@ -15,8 +15,11 @@ use Rattle.compare.proofs.not_below_zero.Tie as tie
 enum-told : tie.Need-enum-told
 enum-told c = search needs
 
-enum-told-2 : tie.Need-enum-told-2
-enum-told-2 c = search needs
+enum-known-ctype : tie.Need-enum-known-ctype
+enum-known-ctype c = search needs
+
+flush-requires : tie.Need-flush-requires
+flush-requires c κs = search needs
 
 single-requires : tie.Need-single-requires
 single-requires c κs = search needs
@@ -31,11 +34,12 @@ unfolding notBelowZero
 returns-2 c =
     simp (
       c .single .ensures,
-      c .before .enum-told2 .given .1,
+      c .before .flush .ensures,
+      c .before .before .before .ctype .given .1,
     )
 
 pub not-below-zero-spec : {M : Type 1} → statement M
-not-below-zero-spec = tie.close (tie.spec enum-told enum-told-2 single-requires returns returns-2)
+not-below-zero-spec = tie.close (tie.spec enum-told enum-known-ctype flush-requires single-requires returns returns-2)
 
 -- no two outcomes satisfy the contract as it stands in src/lib.rt
 pub not-below-zero-one-outcome :
