@@ -1,4 +1,4 @@
--- The user's three demands, in their words and order, as laws of the whole bench: document 01 with the requests that have landed (T-01). `read`, `write` and `execute` of src/lib.rt promise `Answers`, `writing` and `run` for
+-- The user's three demands, in their words and order, as laws of the whole bench: document 01 with the requests that have landed (T-01, T-02). `read`, `write` and `execute` of src/lib.rt promise `Answers`, `writing` and `run` for
 -- every input; these laws say what that means. What a definition says, its own file says after the documents (docs/TRACE.md leads the way). Assumes nothing.
 use Prim.Native.Nat.{ℕ, _≤_, _<_}
 use mathlib.Core.Path.{_≡_, ap}

@@ -264,7 +264,7 @@ pub fn set_value(dtype: SetType, t: bool) -> u32
     if t { v } else { 0 }
 }
 
-// Whether slct's c is at or above zero.
+// Whether slct's c is at or above zero; with `ftz` a subnormal c counts as zero (T-02).
 pub fn not_below_zero(ctype: SlctType, c: u32) -> bool
     ensures { λ r. ⌜ r ≡ notBelowZero ctype c ⌝ }
 {

@@ -1,5 +1,5 @@
 -- The comparison of floats by their bits alone: which patterns are NaN is `nan-pattern` of FloatOrder.antt; here what the forms of a comparison
--- give with a NaN and without one, both formats at once. Assumes nothing.
+-- give with a NaN and without one, both formats at once; and what `ftz` does, in slct too. Assumes nothing.
 use Prim.Native.Nat.{ℕ, _%_, _<_, _≤_}
 use mathlib.Core.Path.{_≡_, refl, sym, ap, _∙_}
 use mathlib.Core.Bool.{Bool, true, false, not, cond, _&&_, _||_, and-true, and-comm, and-eq-true-iff, true≢false}
