@@ -1,6 +1,6 @@
 /*
  * The listing program of the PTX line bench, worked out from document 01 and
- * request T-01.
+ * requests T-01 and T-02.
  *
  * It reads a listing from standard input, reads each line into a record,
  * executes the record, and writes one answer per line and, at the end, the
@@ -978,9 +978,10 @@ static bool bool_op(Word op, bool t, bool c)
     }
 }
 
-/* slct: c is at or above zero. */
-static bool at_or_above_zero(uint32_t c, Word type)
+/* slct: c, flushed if `ftz`, is at or above zero. */
+static bool at_or_above_zero(uint32_t c, Word type, bool ftz)
 {
+    c = ftz ? flush(c) : c;
     uint32_t size = c & UINT32_C(0x7FFFFFFF);
     bool negative = size != c;
     if (type == W_S32)
@@ -1014,7 +1015,7 @@ static bool execute(Machine *m, const Record *rec)
 
     case W_SELP: case W_SLCT: {
         bool pick_a = rec->op == W_SELP ? m->p[rec->c] == 1
-                                        : at_or_above_zero(m->r[rec->c], rec->btype);
+                                        : at_or_above_zero(m->r[rec->c], rec->btype, rec->ftz);
         unsigned from = pick_a ? rec->a : rec->b;
         if (is_wide(rec->dtype))
             m->rd[rec->d] = m->rd[from];

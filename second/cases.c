@@ -637,24 +637,23 @@ static void lane_runs(void)
         }
 }
 
-/* Between As and Bs, by the open register c. */
-static void run_choice(unsigned type, const char *c)
+/* Between two words or doubles, by the open register c. */
+static void run_choice(unsigned type, const char *const between[2], const char *c)
 {
-    if (is_wide(type))
-        run(1, "d0=AAAAAAAAAAAAAAAA d1=BBBBBBBBBBBBBBBB %s", c);
-    else
-        run(1, "r0=AAAAAAAA r1=BBBBBBBB %s", c);
+    run(1, "%s %s", between[is_wide(type)], c);
 }
 
+static const char *const AS_AND_BS[2] = { "r0=AAAAAAAA r1=BBBBBBBB", "d0=AAAAAAAAAAAAAAAA d1=BBBBBBBBBBBBBBBB" };
+
 /* slct by type of c, type and value of c */
-static void slct_runs(void)
+static void slct_runs(const uint64_t *value, unsigned count, const char *const between[2])
 {
-    values(WORDS, VALUES);
+    values(value, count);
     for (unsigned row = 0; row < 3 * TYPES; row++) {
         unsigned type = row % TYPES, file = is_wide(type);
         begin("0 0 6 %u %u %u 3 %u 0 %u 1 2", row / TYPES, type, file, file, file);
         end();
-        run_choice(type, "r2");
+        run_choice(type, between, "r2");
     }
 }
 
@@ -666,7 +665,7 @@ static void selp_runs(void)
         unsigned file = is_wide(type);
         begin("0 0 5 %u %u 3 %u 0 %u 1 0", type, file, file, file);
         end();
-        run_choice(type, "p0");
+        run_choice(type, AS_AND_BS, "p0");
     }
 }
 
@@ -869,6 +868,27 @@ static void lane_carries(void)
     }
 }
 
+/* ---- request T-02: what is of no other record ---- */
+
+/* Zeros, edges and middle of the subnormals, the normals next to them, ones, greatest finites, infinities, NaNs. */
+static const uint64_t AROUND_TINY[] = {
+    0x00000000, 0x80000000, 0x00000001, 0x80000001, 0x003FFFFF, 0x803FFFFF, 0x00400000, 0x80400000,
+    0x007FFFFE, 0x807FFFFE, 0x007FFFFF, 0x807FFFFF, 0x00800000, 0x80800000, 0x00800001, 0x80800001,
+    0x00FFFFFF, 0x80FFFFFF, 0x01000000, 0x81000000, 0x3F800000, 0xBF800000, 0x7F7FFFFF, 0xFF7FFFFF,
+    0x7F800000, 0xFF800000, 0x7F800001, 0xFF800001, 0x7FC00000, 0xFFC00000, 0x7FFFFFFF, 0xFFFFFFFF
+};
+
+/* c as d, a or b too, by type of c: d gets c's bits as they are, and no other register changes */
+static void slct_c_twice(void)
+{
+    static const char *const dab[] = { "0 2 0 0 0 1", "0 3 0 2 0 1", "0 3 0 0 0 2" };
+    for (unsigned at = 0; at < 3 * COUNT(dab); at++) {
+        begin("0 0 6 %u %u %s 2", at / COUNT(dab), F32, dab[at % COUNT(dab)]);
+        end();
+        run(1, "r0=1 r1=807FFFFF r2");
+    }
+}
+
 /* ---- all of it ---- */
 
 static void legality(void)
@@ -906,7 +926,7 @@ static void executed(void)
     scalar_runs();
     vset_runs();
     lane_runs();
-    slct_runs();
+    slct_runs(WORDS, VALUES, AS_AND_BS);
     selp_runs();
     guards(0, OLDER_BASES);
     set_guards();
@@ -938,6 +958,20 @@ static void arithmetic_by_lanes(void)
     files(OLDER_BASES, COUNT(BASES));
 }
 
+/* request T-02, behind those of T-01: a and b are subnormals themselves, or doubles of two subnormal singles */
+static void tiny_negatives(void)
+{
+    static const char *const subnormals[2] = { "r0=80000001 r1=7FFFFF", "d0=8000000000000001 d1=FFFFFFFFFFFFF" };
+    static const char *const others[2] = { "r0=400000 r1=80000001", "d0=80000001007FFFFF d1=180400000" };
+    uint64_t sign_and_bit[32];
+    for (unsigned i = 0; i < 32; i++)
+        sign_and_bit[i] = 0x80000000 | UINT64_C(1) << i;
+    section = EXECUTED;
+    slct_runs(AROUND_TINY, COUNT(AROUND_TINY), subnormals);
+    slct_c_twice();
+    slct_runs(sign_and_bit, COUNT(sign_and_bit), others);
+}
+
 int main(int argc, char **argv)
 {
     bool count = argc == 2 && strcmp(argv[1], "--count") == 0;
@@ -949,6 +983,7 @@ int main(int argc, char **argv)
     written();
     executed();
     arithmetic_by_lanes();
+    tiny_negatives();
     if (fflush(stdout) != 0 || ferror(stdout))
         return 1;
     if (count)

@@ -418,6 +418,53 @@ static void declare_lane_arithmetic(void)
         kind("refused 3: %s", near_opcodes[i]);
 }
 
+/* ---- what can occur, from request T-02 ---- */
+
+static const char *const tiny_sizes[] = { "zero", "least subnormal", "other subnormal", "greatest subnormal", "least normal" };
+
+/* The size of a single near zero, whatever its sign; 5 if it is none of these. */
+static unsigned tiny_size(uint32_t x)
+{
+    uint32_t size = x & 0x7FFFFFFF;
+    return size == 0 ? 0 : size == 1 ? 1 : size < 0x7FFFFF ? 2 : size == 0x7FFFFF ? 3 : size == 0x800000 ? 4 : 5;
+}
+
+static bool is_subnormal(uint32_t x) { return tiny_size(x) >= 1 && tiny_size(x) <= 3; }
+
+/* A head of slct, in which a width may stand for the data types. */
+static const char *slct_head(bool ftz, const char *data, Word c_type)
+{
+    static char head[32];
+    snprintf(head, sizeof head, "%s%s.%s", ftz ? "ftz." : "", data, spelling[c_type]);
+    return head;
+}
+
+static void declare_tiny(bool ftz, Word c_type, char sign)
+{
+    for EACH(i, tiny_sizes) {
+        for (int d = W_U32; d <= W_F64; d++)
+            kind("tiny c: %s %c%s", slct_head(ftz, spelling[d], c_type), sign, tiny_sizes[i]);
+        kind("tiny c to the end: %s %c%s", slct_head(ftz, "32 bits", c_type), sign, tiny_sizes[i]);
+        kind("tiny c to the end: %s %c%s", slct_head(ftz, "64 bits", c_type), sign, tiny_sizes[i]);
+    }
+    for (int d = W_U32; d <= W_F64; d++) {
+        const char *head = slct_head(ftz, spelling[d], c_type);
+        if (!is_wide((Word)d) || sign == '+')       /* %rd is 0 to 31 in a listing */
+            kind("subnormal copied: %s %c", head, sign);
+        if (!is_wide((Word)d) && ftz)
+            kind("subnormal copied: %s %c, a is c", head, sign);
+    }
+}
+
+static void declare_tiny_choices(void)
+{
+    for (int sign = 0; sign < 2; sign++) {
+        declare_tiny(false, W_S32, "+-"[sign]);
+        declare_tiny(false, W_F32, "+-"[sign]);
+        declare_tiny(true, W_F32, "+-"[sign]);
+    }
+}
+
 static void declare_lines(void)
 {
     kind("answer: done");
@@ -659,6 +706,44 @@ static void count_comparison(const Machine *m, const Record *rec, const Line *li
         hit("same register: setp second and c");
 }
 
+/* The kind of choice that a register holds; if it does so at the end of the listing a wrong choice is printed. Empty if none. */
+static char held[R_COUNT + RD_COUNT][NAME_MOST];
+
+static char *held_by_d(const Record *rec)
+{
+    return held[(rec->op == W_SELP || rec->op == W_SLCT) && is_wide(rec->dtype) ? R_COUNT + rec->d : rec->d];
+}
+
+static void count_held(void)
+{
+    for (unsigned n = 0; n < R_COUNT + RD_COUNT; n++) {
+        if (held[n][0] != '\0')
+            hit("%s", held[n]);
+        held[n][0] = '\0';
+    }
+}
+
+static void count_slct(const Machine *m, const Record *rec)
+{
+    bool wide = is_wide(rec->dtype);
+    uint64_t a = wide ? m->rd[rec->a] : m->r[rec->a], b = wide ? m->rd[rec->b] : m->r[rec->b];
+    uint32_t c = m->r[rec->c];
+    uint32_t copied = (uint32_t)(at_or_above_zero(c, rec->btype, rec->ftz) ? a : b);    /* %rd is 0 to 31 in a listing */
+    const char *head = slct_head(rec->ftz, spelling[rec->dtype], rec->btype);
+    hit("slct: %s %s", head, rec->btype == W_F32 ? single_class(c) : c == 0 ? "zero" : c >> 31 ? "below zero" : "above zero");
+    if (is_subnormal(copied))
+        hit("subnormal copied: %s %c", head, "+-"[copied >> 31]);
+    if (a == b)
+        return;                 /* a wrong choice would not show */
+    if (is_subnormal(c) && rec->ftz && !wide && rec->a == rec->c)
+        hit("subnormal copied: %s %c, a is c", head, "+-"[c >> 31]);
+    if (tiny_size(c) < 5) {
+        hit("tiny c: %s %c%s", head, "+-"[c >> 31], tiny_sizes[tiny_size(c)]);
+        snprintf(held_by_d(rec), NAME_MOST, "tiny c to the end: %s %c%s", slct_head(rec->ftz, wide ? "64 bits" : "32 bits", rec->btype),
+                 "+-"[c >> 31], tiny_sizes[tiny_size(c)]);
+    }
+}
+
 static void count_registers(const Line *line, const Record *rec)
 {
     static const char *const files[] = { "%r", "%rd", "%p" };
@@ -700,6 +785,8 @@ static void count_accepted(const Machine *m, const Line *line, const Record *rec
     if (!taken)
         return;
     hit("head: %.*s", (int)line->head.length, (const char *)line->head.at);
+    if (rec->op != W_SETP)
+        held_by_d(rec)[0] = '\0';
     if (is_scalar(rec->op))
         count_scalar(m, rec);
     else if (is_simd(rec->op))
@@ -708,10 +795,8 @@ static void count_accepted(const Machine *m, const Line *line, const Record *rec
         count_comparison(m, rec, line);
     else if (rec->op == W_SELP)
         hit("selp: %s %d", spelling[rec->dtype], m->p[rec->c]);
-    else if (rec->btype == W_F32)
-        hit("slct: %s%s.f32 %s", rec->ftz ? "ftz." : "", spelling[rec->dtype], single_class(m->r[rec->c]));
     else
-        hit("slct: %s.s32 %s", spelling[rec->dtype], m->r[rec->c] == 0 ? "zero" : m->r[rec->c] >> 31 ? "below zero" : "above zero");
+        count_slct(m, rec);
 }
 
 /* ---- lines that are refused: how near they are to a line that is read ---- */
@@ -1094,6 +1179,7 @@ static void count_listing(const char *name)
         }
         p = feed + 1;
     }
+    count_held();
 }
 
 /* ---- the tally ---- */
@@ -1174,6 +1260,7 @@ int main(int argc, char **argv)
     declare_operands();
     declare_values();
     declare_lane_arithmetic();
+    declare_tiny_choices();
     read_tally(argv[1]);
     if (argc == 2)
         return report() > 0;

@@ -93,6 +93,11 @@ enum { LANE_WORDS = 7 };
 
 static unsigned lane_words[2][LANE_WORDS];
 
+/* Registers with zeros, subnormals and least normals of either sign: c of slct, where `ftz` matters (request T-02). */
+enum { TINY_WORDS = 10 };
+
+static unsigned tiny_words[TINY_WORDS];
+
 static bool is_hot(unsigned n)
 {
     for (unsigned i = 0; i < hot_count; i++)
@@ -128,6 +133,13 @@ static unsigned lane_word(unsigned lanes)
     if (hot_count > 0 && percent(70))
         return PICK(lane_words[lanes == 4]);
     return source_word();
+}
+
+/* c of slct, of any class at times. */
+static unsigned choice_word(void)
+{
+    unsigned kind = below(100);
+    return kind < 30 && hot_count > 0 ? PICK(tiny_words) : kind < 65 ? hot_word() : source_word();
 }
 
 static unsigned destination_word(void)
@@ -200,6 +212,10 @@ static void emit_kit(void)
     }
     memcpy(hot, r, sizeof r);
     hot_count = KIT;
+    const unsigned tiny[TINY_WORDS] = {         /* H_MAX is 00007FFF, B_MAX 8000007F */
+        r[ZERO], r[S_MIN], r[ONE], r[N_SUB_MIN], r[H_MAX], r[B_MAX], r[SUB_MAX], r[N_SUB_MAX], r[NORMAL], r[N_NORMAL]
+    };
+    memcpy(tiny_words, tiny, sizeof tiny);
 
     unsigned x = below(64);
     emit_format("set.ne.u32.u32 %%r%u, %%r%u, %%r%u;", r[ZERO], x, x);
@@ -478,7 +494,9 @@ static void draft_slct(Draft *d)
     add_name(d, single ? "f32" : "s32");
     add_typed_destination(d, type);
     add_typed_sources(d, type);
-    add_operand(d, "%%r%u", source_word());
+    add_operand(d, "%%r%u", choice_word());
+    if (!is_wide(type) && percent(10))          /* c is copied, as it is */
+        memcpy(d->operand[1], d->operand[3], TEXT_MOST);
 }
 
 static void draft_good(Draft *d)
@@ -1058,6 +1076,19 @@ static void emit_line(void)
     emit(line.bytes, line.length);
 }
 
+/* The last bytes of a listing are choices of slct, which so are left to the end, where a wrong one is printed. */
+enum { CHOICES = 300 };
+
+static void emit_choice(void)
+{
+    Draft draft;
+    Line line;
+    memset(&draft, 0, sizeof draft);
+    draft_slct(&draft);
+    render_some_way(&draft, &line);
+    emit(line.bytes, line.length);
+}
+
 int main(int argc, char **argv)
 {
     if (argc != 3) {
@@ -1082,7 +1113,10 @@ int main(int argc, char **argv)
             emit_kit();
         else if (below(40) == 0)
             emit_predicates();
-        emit_line();
+        if (limit >= 4000 && limit - used < CHOICES)
+            emit_choice();
+        else
+            emit_line();
     }
     return fwrite(listing, 1, used, stdout) == used && fflush(stdout) == 0 ? 0 : 1;
 }
