@@ -1,5 +1,5 @@
--- Document 01, "Bench figures": the starred ones; fourteen for request T-01, which gives none itself: they came with its issue; and those of T-02. One list with one claim. Each is a record with its files, through `run`, and the whole
--- outcome. `%r0`, `%r1` and `%r2` hold a, b and c; d is `%r3`. Predicate 0 holds c of setp; its places are 1 and 2.
+-- Document 01, "Bench figures": the starred ones; fourteen for request T-01, which gives none itself: they came with its issue; sixteen for T-02, which gives the first two:
+-- twelve came with its issue, the last two are ours. One list with one claim. Each is a record with its files, through `run`, and the whole outcome. `%r0`, `%r1` and `%r2` hold a, b and c; d is `%r3`. Predicate 0 holds c of setp; its places are 1 and 2.
 use Prim.Native.Nat.{ℕ}
 use mathlib.Core.Path.{_≡_, refl}
 use mathlib.Core.Bool.{Bool, true, false}
@@ -179,21 +179,15 @@ figures =
     -- vmax4 all u32, a `.b0123` 01020304, 02020202: 04030202
     ∷ gives (arithmeticLine (Scalar Vmax) Byte U32 U32 U32 false false (fullMask Byte) b0123) 0x01020304 0x02020202 0 0x04030202
     -- T-02, slct: c 80000001 gives a with `ftz`, b without; 807FFFFF likewise
-    ∷ picksA true 0x80000001
-    ∷ picksB false 0x80000001
-    ∷ picksA true 0x807FFFFF
-    ∷ picksB false 0x807FFFFF
-    -- 80800000 (the smallest normal number, negative) gives b in both, -0 a; NaN of either sign and -infinity give b
-    ∷ picksB true 0x80800000
-    ∷ picksB false 0x80800000
-    ∷ picksA true 0x80000000
-    ∷ picksA false 0x80000000
-    ∷ picksB true 0x7FC00000
-    ∷ picksB false 0x7FC00000
-    ∷ picksB true 0xFFC00000
-    ∷ picksB false 0xFFC00000
-    ∷ picksB true 0xFF800000
-    ∷ picksB false 0xFF800000
+    ∷ picksA true 0x80000001 ∷ picksB false 0x80000001
+    ∷ picksA true 0x807FFFFF ∷ picksB false 0x807FFFFF
+    -- 80800000 (the smallest normal number, negative) gives b in both, -0 a, NaN of either sign and -infinity b; 00000001 gives a
+    ∷ picksB true 0x80800000 ∷ picksB false 0x80800000
+    ∷ picksA true 0x80000000 ∷ picksA false 0x80000000
+    ∷ picksB true 0x7FC00000 ∷ picksB false 0x7FC00000
+    ∷ picksB true 0xFFC00000 ∷ picksB false 0xFFC00000
+    ∷ picksB true 0xFF800000 ∷ picksB false 0xFF800000
+    ∷ picksA true 0x00000001 ∷ picksA false 0x00000001
     ∷ []
 
 -- each figure's record, run on its files, is done and leaves the files that stand beside it
