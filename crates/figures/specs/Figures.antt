@@ -1,5 +1,6 @@
 -- Document 01, "Bench figures": the starred ones; fourteen for request T-01, which gives none itself: they came with its issue; sixteen for T-02, which gives the first two:
--- twelve came with its issue, the last two are ours. One list with one claim. Each is a record with its files, through `run`, and the whole outcome. `%r0`, `%r1` and `%r2` hold a, b and c; d is `%r3`. Predicate 0 holds c of setp; its places are 1 and 2.
+-- twelve came with its issue, the last two are ours. One list with one claim. Each is a record with its files, through `run`, and the whole outcome.
+-- `%r0`, `%r1` and `%r2` hold a, b and c; d is `%r3`. Predicate 0 holds c of setp; its places are 1 and 2.
 use Prim.Native.Nat.{ℕ}
 use mathlib.Core.Path.{_≡_, refl}
 use mathlib.Core.Bool.{Bool, true, false}
@@ -92,7 +93,7 @@ scalarLine op dtype sat atype btype form =
 abbrev gives : Record → ℕ → ℕ → ℕ → ℕ → Figure
 gives line a b c d = record { line = line; before = lent (four a b c 0) (three 0 0 0); left = lent (four a b c d) (three 0 0 0) }
 
--- slct.f32.f32 or slct.ftz.f32.f32 by c. What is copied would be flushed: a is 80000001, b is 007FFFFF
+-- slct.f32.f32 or slct.ftz.f32.f32 by c. a and b are subnormal themselves, so that a flushed copy would show
 abbrev chosen : Bool → ℕ → ℕ → Figure
 chosen ftz c d =
     gives
