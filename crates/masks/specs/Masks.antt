@@ -1,54 +1,57 @@
 -- The code's side of the names of masks and of selectors of the forms with 2 and 4, kept as numbers. No one has to believe it: laws join it to the names.
-use Prim.Native.Nat.{ℕ, _/_, _%_}
-use mathlib.Core.Bool.{Bool, true, false, cond}
-use mathlib.Core.List.{List, [], _∷_}
+use Prim.Native.Nat.{ℕ, zero, suc, _+_, _/_, _%_}
+use mathlib.Core.Bool.{Bool, false, not, _&&_, _||_, cond}
 use lib.Dec.{eqb}
 use Rattle.base.specs.Pack.{radix, pack}
 use Rattle.record.specs.declared.LaneWidth.{LaneWidth}
 use Rattle.record.specs.declared.LaneWidth.the-variants.{Half, Byte}
+use Rattle.record.specs.declared.Mask.{Mask}
 use Rattle.record.specs.declared.Digits.{Digits}
-use Rattle.rules.specs.Names.{digitsName}
-use Rattle.base.specs.Lookup.{lookup}
+use Rattle.text.specs.Digits.{zeroByte}
+use Rattle.rules.specs.Numbers.{lanes}
+use Rattle.rules.specs.Names.{laneLetter, digitsName}
 use Rattle.masks.specs.declared.MaskFound
 use Rattle.masks.specs.declared.MaskFound.{MaskFound}
 use Rattle.masks.specs.declared.DigitsFound
 use Rattle.masks.specs.declared.DigitsFound.{DigitsFound}
 
--- the lanes in the order of a name's digits
-abbrev pub maskFound : Bool → Bool → Bool → Bool → MaskFound
-maskFound l3 l2 l1 l0 = MaskFound.Is (record { lane0 = l0; lane1 = l1; lane2 = l2; lane3 = l3 })
+-- ==== masks
 
-abbrev pub halfMasks : List (ℕ × MaskFound)
-halfMasks = (6248, maskFound false false false true) ∷ (6376, maskFound false false true false) ∷ (792808, maskFound false false true true) ∷ []
+-- the number of a lane, or of the lanes, as a digit
+abbrev pub laneDigit : ℕ → ℕ
+laneDigit k = k + zeroByte
 
-abbrev pub byteMasks : List (ℕ × MaskFound)
-byteMasks =
-    (6242, maskFound false false false true)
-    ∷ (6370, maskFound false false true false)
-    ∷ (792802, maskFound false false true true)
-    ∷ (6498, maskFound false true false false)
-    ∷ (792930, maskFound false true false true)
-    ∷ (809314, maskFound false true true false)
-    ∷ (101472610, maskFound false true true true)
-    ∷ (6626, maskFound true false false false)
-    ∷ (793058, maskFound true false false true)
-    ∷ (809442, maskFound true false true false)
-    ∷ (101472738, maskFound true false true true)
-    ∷ (825826, maskFound true true false false)
-    ∷ (101489122, maskFound true true false true)
-    ∷ (103586274, maskFound true true true false)
-    ∷ (12988488162, maskFound true true true true)
-    ∷ []
+abbrev pub noLane : Mask
+noLane = record { lane0 = false; lane1 = false; lane2 = false; lane3 = false }
 
-unfoldable pub halfMask : ℕ → MaskFound
-halfMask x = lookup x halfMasks MaskFound.Not
+-- the lane of the digit d is named, too, if t
+abbrev pub naming : ℕ → Bool → Mask → Mask
+naming d t m =
+    record {
+      lane0 = (t && eqb d (laneDigit 0)) || m .lane0;
+      lane1 = (t && eqb d (laneDigit 1)) || m .lane1;
+      lane2 = (t && eqb d (laneDigit 2)) || m .lane2;
+      lane3 = (t && eqb d (laneDigit 3)) || m .lane3;
+    }
 
-unfoldable pub byteMask : ℕ → MaskFound
-byteMask x = lookup x byteMasks MaskFound.Not
+-- whether the digit of lane k comes next
+abbrev pub comesNext : ℕ → ℕ → Bool
+comesNext k x = eqb (x % radix) (laneDigit k)
 
-abbrev pub maskOf : LaneWidth → ℕ → MaskFound
-maskOf Half x = halfMask x
-maskOf Byte x = byteMask x
+-- what stands behind it
+abbrev pub leftOf : ℕ → ℕ → ℕ
+leftOf k x = cond (comesNext k x) (x / radix) x
+
+-- strictly falling digits of the lanes below k: from the highest down a lane is named if its digit comes next, and in the end no byte is left
+unfoldable pub falling : ℕ → Mask → ℕ → MaskFound
+falling zero m x = cond (eqb x 0) (MaskFound.Is m) MaskFound.Not
+falling (suc k) m x = falling k (naming (laneDigit k) (comesNext k x) m) (leftOf k x)
+
+-- no mask if another letter stands in front, or no digit behind it; else what its digits name
+unfoldable pub maskOf : LaneWidth → ℕ → MaskFound
+maskOf w x = cond (not (eqb (x % radix) (pack (laneLetter w))) || eqb (x / radix) 0) MaskFound.Not (falling (lanes w) noLane (x / radix))
+
+-- ==== selectors
 
 -- what the digits stand for: the low bits of their bytes
 unfoldable pub digitsIn : LaneWidth → ℕ → Digits

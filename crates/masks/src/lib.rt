@@ -1,13 +1,14 @@
-// Masks and selectors of the forms with 2 and 4: the number of each one's name, and back.
+// Masks and selectors of the forms with 2 and 4: the number of each one's name (its bytes in base 128, the first the lowest), and back.
 use record::Digits;
 use record::LaneWidth;
 use record::Mask;
 ghost use mathlib.Core.Path.{_≡_};
 ghost use mathlib.Core.Bool.{cond};
 ghost use Prim.Native.Nat.{_+_, _*_, _^_, _≤_, _<_};
-ghost use Rattle.base.specs.Pack.{radix, Spells};
-ghost use Rattle.rules.specs.Names.{maskName, digitsName};
-ghost use Rattle.masks.specs.Masks.{maskFound, halfMask, byteMask, maskOf, digitsIn, digitsOf};
+ghost use Rattle.base.specs.Pack.{radix, pack, Spells};
+ghost use Rattle.rules.specs.Numbers.{lanes};
+ghost use Rattle.rules.specs.Names.{laneLetter, maskName, digitsName};
+ghost use Rattle.masks.specs.Masks.{laneDigit, maskOf, digitsIn, digitsOf};
 
 // The bytes `b` and `h`, the lowest digits of a name's number.
 const LETTER_B: u64 = 98;
@@ -37,6 +38,16 @@ fn digit_if(named: bool, b: u8, x: u64) -> u64
     x
 }
 
+// The letter before the digits.
+fn letter(w: LaneWidth) -> u64
+    ensures { λ r. ⌜ (r ≡ pack (laneLetter w)) × (r < radix) ⌝ }
+{
+    match w {
+        LaneWidth::Half => LETTER_H,
+        LaneWidth::Byte => LETTER_B,
+    }
+}
+
 // The number of a mask's name.
 pub fn mask_number(w: LaneWidth, m: Mask) -> u64
     ensures { λ r. ⌜ Spells 5 r (maskName w m) ⌝ }
@@ -45,68 +56,56 @@ pub fn mask_number(w: LaneWidth, m: Mask) -> u64
     let x = digit_if(m.lane1, b'1', x);
     let x = digit_if(m.lane2, b'2', x);
     let x = digit_if(m.lane3, b'3', x);
+    letter(w) + base::RADIX * x
+}
+
+// The number of lanes as a digit, below which the digits of a mask are.
+fn digit_limit(w: LaneWidth) -> u8
+    ensures { λ r. ⌜ r ≡ laneDigit (lanes w) ⌝ }
+{
     match w {
-        LaneWidth::Half => LETTER_H + base::RADIX * x,
-        LaneWidth::Byte => LETTER_B + base::RADIX * x,
+        LaneWidth::Half => b'2',
+        LaneWidth::Byte => b'4',
     }
 }
 
-// The lanes in the order of a name's digits.
-fn mask_found(lane3: bool, lane2: bool, lane1: bool, lane0: bool) -> MaskFound
-    ensures { λ r. ⌜ r ≡ maskFound lane3 lane2 lane1 lane0 ⌝ }
-{
-    MaskFound::Is(Mask {
-        lane0,
-        lane1,
-        lane2,
-        lane3,
-    })
-}
-
-// h0 h1 h10
-fn half_mask(x: u64) -> MaskFound
-    ensures { λ r. ⌜ r ≡ halfMask x ⌝ }
-{
-    match x {
-        6248 => mask_found(false, false, false, true), // h0
-        6376 => mask_found(false, false, true, false), // h1
-        792808 => mask_found(false, false, true, true), // h10
-        _ => MaskFound::Not,
-    }
-}
-
-// The fifteen names of `b` and strictly falling digits from 3 2 1 0.
-fn byte_mask(x: u64) -> MaskFound
-    ensures { λ r. ⌜ r ≡ byteMask x ⌝ }
-{
-    match x {
-        6242 => mask_found(false, false, false, true), // b0
-        6370 => mask_found(false, false, true, false), // b1
-        792802 => mask_found(false, false, true, true), // b10
-        6498 => mask_found(false, true, false, false), // b2
-        792930 => mask_found(false, true, false, true), // b20
-        809314 => mask_found(false, true, true, false), // b21
-        101472610 => mask_found(false, true, true, true), // b210
-        6626 => mask_found(true, false, false, false), // b3
-        793058 => mask_found(true, false, false, true), // b30
-        809442 => mask_found(true, false, true, false), // b31
-        101472738 => mask_found(true, false, true, true), // b310
-        825826 => mask_found(true, true, false, false), // b32
-        101489122 => mask_found(true, true, false, true), // b320
-        103586274 => mask_found(true, true, true, false), // b321
-        12988488162 => mask_found(true, true, true, true), // b3210
-        _ => MaskFound::Not,
-    }
-}
-
-// The mask of a name, for the lane width.
+// The mask of a name: the width's letter, then one or more digits, each below the number of lanes and each lower than the one before.
 pub fn mask_of(w: LaneWidth, x: u64) -> MaskFound
     ensures { λ r. ⌜ r ≡ maskOf w x ⌝ }
 {
-    match w {
-        LaneWidth::Half => half_mask(x),
-        LaneWidth::Byte => byte_mask(x),
+    let mut rest = x / base::RADIX;
+    if x % base::RADIX != letter(w) {
+        return MaskFound::Not;
     }
+    if rest == 0 {
+        return MaskFound::Not;
+    }
+    // the digit before, at first the number of lanes; and the lanes named so far
+    let mut last = digit_limit(w);
+    let mut mask = Mask {
+        lane0: false,
+        lane1: false,
+        lane2: false,
+        lane3: false,
+    };
+    while rest != 0 {
+        let digit = (rest % base::RADIX) as u8;
+        if digit < b'0' {
+            return MaskFound::Not;
+        }
+        if last <= digit {
+            return MaskFound::Not;
+        }
+        mask = Mask {
+            lane0: (digit == b'0') | mask.lane0,
+            lane1: (digit == b'1') | mask.lane1,
+            lane2: (digit == b'2') | mask.lane2,
+            lane3: (digit == b'3') | mask.lane3,
+        };
+        last = digit;
+        rest = rest / base::RADIX;
+    }
+    MaskFound::Is(mask)
 }
 
 // ---- selectors
