@@ -7,4 +7,3 @@ pub mod Bytes
 pub mod Values
 pub mod Pack
 pub mod PackLaws
-pub mod Lookup
