@@ -38,7 +38,7 @@ naming d t m =
 abbrev pub comesNext : ℕ → ℕ → Bool
 comesNext k x = eqb (x % radix) (laneDigit k)
 
--- what stands behind it
+-- what stands behind it, or all if it does not come next
 abbrev pub leftOf : ℕ → ℕ → ℕ
 leftOf k x = cond (comesNext k x) (x / radix) x
 

@@ -34,8 +34,8 @@ lanesText m = cond (m .lane3) (bytes "3") [] ++ (cond (m .lane2) (bytes "2") [] 
 abbrev pub added : ℕ → Bool → ℕ → ℕ
 added k named x = cond named (laneDigit k + radix * x) x
 
-pub mask-spells : {w x y z : ℕ} (m : Mask) → w ≡ added 0 (m .lane0) 0 → x ≡ added 1 (m .lane1) w → y ≡ added 2 (m .lane2) x → z ≡ added 3 (m .lane3) y
-    → Spells 4 z (lanesText m)
+pub mask-spells : {n0 n1 n2 n3 : ℕ} (m : Mask) → n0 ≡ added 0 (m .lane0) 0 → n1 ≡ added 1 (m .lane1) n0 → n2 ≡ added 2 (m .lane2) n1 → n3 ≡ added 3 (m .lane3) n2
+    → Spells 4 n3 (lanesText m)
 mask-spells m d e f g =
     spells-maybe (m .lane3) 51 refl (omega arith) g
     (spells-maybe (m .lane2) 50 refl (omega arith) f

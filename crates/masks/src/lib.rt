@@ -10,7 +10,7 @@ ghost use Rattle.rules.specs.Numbers.{lanes};
 ghost use Rattle.rules.specs.Names.{laneLetter, maskName, digitsName};
 ghost use Rattle.masks.specs.Masks.{laneDigit, maskOf, digitsIn, digitsOf};
 
-// The bytes `b` and `h`, the lowest digits of a name's number.
+// The bytes `b` and `h`, with which names begin.
 const LETTER_B: u64 = 98;
 
 const LETTER_H: u64 = 104;
@@ -38,7 +38,7 @@ fn digit_if(named: bool, b: u8, x: u64) -> u64
     x
 }
 
-// The letter before the digits.
+// The letter that a mask's name begins with.
 fn letter(w: LaneWidth) -> u64
     ensures { λ r. ⌜ (r ≡ pack (laneLetter w)) × (r < radix) ⌝ }
 {
@@ -59,7 +59,7 @@ pub fn mask_number(w: LaneWidth, m: Mask) -> u64
     letter(w) + base::RADIX * x
 }
 
-// The number of lanes as a digit, below which the digits of a mask are.
+// The number of lanes as a digit; each digit of a mask is below it.
 fn digit_limit(w: LaneWidth) -> u8
     ensures { λ r. ⌜ r ≡ laneDigit (lanes w) ⌝ }
 {
@@ -73,10 +73,10 @@ fn digit_limit(w: LaneWidth) -> u8
 pub fn mask_of(w: LaneWidth, x: u64) -> MaskFound
     ensures { λ r. ⌜ r ≡ maskOf w x ⌝ }
 {
-    let mut rest = x / base::RADIX;
     if x % base::RADIX != letter(w) {
         return MaskFound::Not;
     }
+    let mut rest = x / base::RADIX;
     if rest == 0 {
         return MaskFound::Not;
     }

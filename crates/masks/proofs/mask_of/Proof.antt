@@ -1,4 +1,4 @@
--- The invariant is the rule: the digits that are left, each lower than the last one, name with the lanes so far what all digits name.
+-- The invariant is the rule: reading on from here, with the last digit and the lanes so far, gives what reading all the digits gives.
 use Prim.Native.Nat.{_-_, _%_, _/_}
 use native.Mathlib.Omega.{arith}
 use mathlib.Core.Path.{_≡_, refl, sym, _∙_}
