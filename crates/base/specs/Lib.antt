@@ -2,8 +2,6 @@ pub mod Promise
 pub mod Lists
 pub mod Tests
 pub mod Moved
-pub mod Text
-pub mod Bytes
 pub mod Values
 pub mod Pack
 pub mod PackLaws

@@ -1,14 +1,9 @@
--- Lists by their places, and what stands past their ends. Assumes nothing.
+-- What stands past the ends of lists. Assumes nothing.
 use Prim.Native.Nat.{ℕ, zero, suc, _≤_}
 use native.Mathlib.Omega.{arith}
 use mathlib.Core.Path.{_≡_, refl, ap}
 use mathlib.Core.List.{List, [], _∷_}
 use lib.ListN.{getD, set, length}
-
--- f 0, f 1, .. f (n - 1)
-abbrev pub tab {ℓ} : {A : Type ℓ} → ℕ → (ℕ → A) → List A
-tab zero f = []
-tab (suc n) f = f 0 ∷ tab n (λ i. f (suc i))
 
 -- a place past the end reads as 0 and cannot be written
 pub getD-past : (xs : List ℕ) (i : ℕ) → length xs ≤ i → 0 ≡ getD xs i 0

@@ -5,7 +5,7 @@ use mathlib.Core.Bool.{Bool, true, _&&_, cond}
 use mathlib.Core.List.{List, [], _∷_, _++_}
 use lib.Dec.{leb, ltb, eqb}
 use lib.ListN.{length}
-use Rattle.base.specs.Bytes.{isNameByte}
+use Rattle.signs.specs.Bytes.{isNameByte}
 use Rattle.base.specs.Values.{every}
 
 -- a name's bytes are below 128

@@ -8,8 +8,8 @@ use mathlib.Core.List.{List, [], _∷_, _++_}
 use lib.Dec.{leb, ltb, eqb}
 use lib.ListN.{length}
 use borrow.Author.Tests.{le-leb, leb-true, ltb-true, ne-eqb}
-use Rattle.base.specs.Bytes.{isNameByte, All, Some}
-use Rattle.base.specs.Bytes.All.{none, more}
+use Rattle.signs.specs.Bytes.{isNameByte, All, Some}
+use Rattle.signs.specs.Bytes.All.{none, more}
 use Rattle.base.specs.Values.{every}
 use Rattle.base.specs.Pack.{radix, pack, longestName, codeOf, unpackIn, unpacked, isPlain, isShortName, Spells}
 

@@ -8,11 +8,12 @@ use lib.ListN.{length, drop}
 use borrow.Author.Tests.{lt-ltb, le-ltb}
 use Rattle.record.specs.Refusals.{isLegal, Legal}
 use Rattle.record.specs.declared.Record.{Record}
-use Rattle.rules.specs.Executing.{Files, Place, writes, after, sizesFit, predsFit, guardHolds, done, skipped, run}
+use Rattle.record.specs.Registers.{Files, Place, at}
+use Rattle.rules.specs.Executing.{writes, after, sizesFit, predsFit, guardHolds, done, skipped, run}
 use Rattle.rules.specs.Executing as executing
-use Rattle.rules.specs.ExecutionLaws.{at, NotAmong, others-unmoved, unless-done-unmoved}
+use Rattle.laws.specs.ExecutionLaws.{NotAmong, others-unmoved, unless-done-unmoved}
 use Rattle.rules.specs.StandardLine.{standard}
-use Rattle.rules.specs.LineLengths.{standard-fits}
+use Rattle.laws.specs.LineLengths.{standard-fits}
 use Rattle.rules.specs.Writing.{written, writing}
 use Rattle.rules.specs.Writing as paper
 use Rattle.rules.specs.Reading.{Relates, Answer, read, refused, Answers}

@@ -10,13 +10,11 @@ use lib.ListN.{length, drop, getD, set, length-append, drop-of-length-le}
 use lib.Seq.{drop-cons, set-at, append-snoc}
 use lib.Dec.{ltb, eqb}
 use borrow.Author.Tests.{lt-ltb, le-ltb}
-use Rattle.base.specs.Lists.{tab}
-use Rattle.base.specs.Text.{bytes}
-use Rattle.record.specs.Registers.{wordCount, doubleCount, predCount}
-use Rattle.rules.specs.Executing.{Files}
+use Rattle.signs.specs.Lists.{tab}
+use Rattle.signs.specs.Text.{bytes}
+use Rattle.record.specs.Registers.{wordCount, doubleCount, predCount, Files, at}
 use Rattle.rules.specs.Shape.{digit, numberText, registerText}
 use Rattle.rules.specs.Writing.{outcome}
-use Rattle.rules.specs.ExecutionLaws.{at}
 use Rattle.text.specs.Buffer.{Buffer, buffer, filled, Puts, whole-front}
 use Rattle.text.specs.Digits.{decimal, one-digit, more-digits, hex, hex-length}
 use Rattle.changes.specs.Changes.{lineFeed, startValue, digitsOf, valueText, changeText, changesText, registersText}

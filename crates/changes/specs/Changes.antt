@@ -3,11 +3,9 @@ use Prim.Native.Nat.{ℕ, zero, suc, _*_}
 use mathlib.Core.Bool.{cond}
 use mathlib.Core.List.{List, [], _∷_, _++_}
 use lib.Dec.{eqb}
-use Rattle.base.specs.Lists.{tab}
-use Rattle.base.specs.Text.{bytes}
-use Rattle.record.specs.Registers.{wordCount, doubleCount, predCount}
-use Rattle.rules.specs.Executing.{Files, files, Place, word, double, pred}
-use Rattle.rules.specs.ExecutionLaws.{at}
+use Rattle.signs.specs.Lists.{tab}
+use Rattle.signs.specs.Text.{bytes}
+use Rattle.record.specs.Registers.{wordCount, doubleCount, predCount, Files, files, Place, word, double, pred, at}
 use Rattle.rules.specs.Shape.{registerText}
 use Rattle.text.specs.Digits.{hex}
 

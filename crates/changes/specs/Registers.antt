@@ -5,9 +5,8 @@ use mathlib.Core.Bool.{cond}
 use mathlib.Core.List.{List}
 use lib.ListN.{length}
 use lib.Dec.{ltb}
-use Rattle.base.specs.Text.{bytes}
-use Rattle.record.specs.Registers.{wordCount, doubleCount, predCount}
-use Rattle.rules.specs.Executing.{Files, Place, word, double, pred}
+use Rattle.signs.specs.Text.{bytes}
+use Rattle.record.specs.Registers.{wordCount, doubleCount, predCount, Files, Place, word, double, pred}
 use Rattle.rules.specs.Writing.{front}
 use Rattle.changes.specs.Changes.{registersText}
 use Rattle.record.specs.declared.File.{File}

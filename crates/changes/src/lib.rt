@@ -5,9 +5,8 @@ use record::Pred;
 use record::Word;
 ghost use mathlib.Core.Path.{_≡_};
 ghost use Prim.Native.Nat.{_<_};
-ghost use Rattle.record.specs.Registers.{wordCount};
-ghost use Rattle.rules.specs.Executing.{word, files};
-ghost use Rattle.rules.specs.ExecutionLaws as execution;
+ghost use Rattle.record.specs.Registers.{wordCount, word, files};
+ghost use Rattle.record.specs.Registers as held;
 ghost use Rattle.text.specs.Buffer.{buffer, Puts};
 ghost use Rattle.changes.specs.Changes.{startValue, startFiles, digitsOf, valueText, changeText, changesText};
 ghost use Rattle.changes.specs.Registers.{placeOf, countOf, prefixOf, answerOf, outcome, printing};
@@ -104,7 +103,7 @@ fn start_value(file: File, k: usize) -> u64
 
 fn value(file: File, k: usize, words: &[u32], doubles: &[u64], preds: &[u8]) -> u64
     requires { ⌜ k < countOf file ⌝ }
-    ensures { λ m. ⌜ m ≡ execution.at (files (now (words .entry)) (now (doubles .entry)) (now (preds .entry))) (placeOf file k) ⌝ }
+    ensures { λ m. ⌜ m ≡ held.at (files (now (words .entry)) (now (doubles .entry)) (now (preds .entry))) (placeOf file k) ⌝ }
 {
     match file {
         File::Words => registers::word_at(words, Word(k as u16)) as u64,

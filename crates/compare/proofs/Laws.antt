@@ -21,7 +21,7 @@ use Rattle.record.specs.declared.CmpOp.{CmpOp}
 use Rattle.base.specs.Tests.{leb-not}
 use Rattle.base.specs.Moved.{un, un-high, un-up, un-down, un-lt, un-le, un-eq}
 use Rattle.rules.specs.Numbers.{wordSize, exactOf, holdsZ}
-use Rattle.rules.specs.FloatOrder.{only-nan}
+use Rattle.laws.specs.FloatOrder.{only-nan}
 use Rattle.rules.specs.Execution.{valueOf, wholeHolds, floatHolds, comparisonOf}
 use Rattle.compare.specs.Mirror.{movedOf, comparedOf, sixFrom, wholesHold, floatFrom, comparedHold}
 

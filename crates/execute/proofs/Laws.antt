@@ -16,7 +16,8 @@ use Rattle.record.specs.declared.Operand.{Operand}
 use Rattle.record.specs.declared.Instruction.{Instruction}
 use Rattle.record.specs.declared.Instruction.the-variants.{Arithmetic, Vset, VsetLanes, ArithmeticLanes, Set, Setp, Selp, Slct}
 use Rattle.record.specs.declared.Record.{Record}
-use Rattle.rules.specs.Executing.{Files, operandPlace, kept, destinationWrites, writes, put, putAll, after, sizesFit, predsFit, guardHolds, firstRefusal, done, skipped, refused, outcome, run}
+use Rattle.record.specs.Registers.{Files, operandPlace}
+use Rattle.rules.specs.Executing.{kept, destinationWrites, writes, put, putAll, after, sizesFit, predsFit, guardHolds, firstRefusal, done, skipped, refused, outcome, run}
 use Rattle.execute.specs.Mirror.{operandWrite, writeOf, predsWith, written}
 use Rattle.execute.specs.declared.Write
 use Rattle.execute.specs.declared.Write.{Write}

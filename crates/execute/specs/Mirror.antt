@@ -23,7 +23,8 @@ use Rattle.record.specs.declared.Instruction.{Instruction}
 use Rattle.record.specs.declared.Instruction.the-variants.{Arithmetic, Vset, VsetLanes, ArithmeticLanes, Set, Setp, Selp, Slct}
 use Rattle.rules.specs.Numbers.{bit, wordSize}
 use Rattle.rules.specs.Execution.{arithmeticOf, vsetOf, lanesOf, arithmeticLanesOf, setOf, selpOf, slctOf}
-use Rattle.rules.specs.Executing.{Files, files, wordOf, predOf, operandOf, selectedWord, formC, formD, combinedOf, testOf}
+use Rattle.record.specs.Registers.{Files, files}
+use Rattle.rules.specs.Executing.{wordOf, predOf, operandOf, selectedWord, formC, formD, combinedOf, testOf}
 use Rattle.execute.specs.declared.Write
 use Rattle.execute.specs.declared.Write.{Write}
 

@@ -24,7 +24,8 @@ use record::Word;
 ghost use mathlib.Core.Path.{_≡_};
 ghost use mathlib.Core.Bool.{cond};
 ghost use lib.ListN.{set};
-ghost use Rattle.rules.specs.Executing.{files, operandOf, selectedWord, formC, formD, conditionHolds, combinedOf, testOf, sizesFit, predsFit, guardHolds, outcome, run};
+ghost use Rattle.record.specs.Registers.{files};
+ghost use Rattle.rules.specs.Executing.{operandOf, selectedWord, formC, formD, conditionHolds, combinedOf, testOf, sizesFit, predsFit, guardHolds, outcome, run};
 ghost use Rattle.execute.specs.Answers.{answerOf};
 ghost use Rattle.execute.specs.Mirror.{operandWrite, arithmeticWrite, vsetWrite, lanesWrite, arithmeticLanesWrite, setWrite, setpWrite, eitherOf, selpWrite, slctWrite, writeOf, predsWith, written};
 

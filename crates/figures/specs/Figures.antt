@@ -45,7 +45,8 @@ use Rattle.record.specs.declared.Instruction.the-variants.{Arithmetic, VsetLane
 use Rattle.record.specs.declared.Record.{Record}
 use Rattle.rules.specs.Numbers.{exactOf, holdsZ}
 use Rattle.rules.specs.Execution.{selectedOf, formOf, arithmeticOf, laneHolds, lanesOf, laneResult, arithmeticLanesOf, valueOf, comparisonOf, notBelowZero}
-use Rattle.rules.specs.Executing.{Files, files, done, outcome, combinedOf, testOf, writes, after, sizesFit, predsFit, guardHolds, run}
+use Rattle.record.specs.Registers.{Files, files}
+use Rattle.rules.specs.Executing.{done, outcome, combinedOf, testOf, writes, after, sizesFit, predsFit, guardHolds, run}
 
 pub record Figure : Type 0 where
   pub line : Record

@@ -3,7 +3,7 @@ use Prim.Native.Nat.{ℕ}
 use mathlib.Core.Path.{_≡_, refl}
 use mathlib.Core.Bool.{true, false}
 use mathlib.Core.List.{List, [], _∷_, map}
-use Rattle.base.specs.Text.{bytes}
+use Rattle.signs.specs.Text.{bytes}
 use Rattle.record.specs.Operands.{fullMask, defaultA, defaultB}
 use Rattle.record.specs.declared.Word.{Word}
 use Rattle.record.specs.declared.Double.{Double}

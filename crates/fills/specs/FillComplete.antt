@@ -32,10 +32,10 @@ use Rattle.record.specs.declared.SlctType.{SlctType}
 use Rattle.record.specs.declared.VideoType.{VideoType}
 use Rattle.record.specs.declared.Word.{Word}
 use Rattle.record.specs.declared.Pred.{Pred}
-use Rattle.rules.specs.Executing.{operandPlace}
+use Rattle.record.specs.Registers.{operandPlace, r, p}
 use Rattle.rules.specs.Shape.{OperandTree, bare, part}
 use Rattle.rules.specs.Names.{maskName, digitsName}
-use Rattle.rules.specs.StandardLine.{r, p, sameMask, sameDigits, selectedTree, formTree, formLast, maskTree, digitsTree, conditionTree, combinationLast, destinationTree, lanesTrees, operandTrees}
+use Rattle.rules.specs.Spelling.{sameMask, sameDigits, selectedTree, formTree, formLast, maskTree, digitsTree, conditionTree, combinationLast, destinationTree, lanesTrees, operandTrees}
 use Rattle.rules.specs.Reading.{OneOf, as-standard, as-written, Spelled, none, more, OperandsSpell, writtenLanes}
 use Rattle.tree.specs.Seen.{seenOperand, seenOperands}
 use Rattle.tree.specs.Blank.{blank, blankScalar, blankLanes, blankComparison, blankChoice}

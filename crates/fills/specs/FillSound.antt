@@ -7,7 +7,7 @@ use mathlib.Core.List.{List, [], _∷_, _++_, map}
 use lib.Dec.{eqb}
 use lib.ListN.{length, take, getD, replicate}
 use borrow.Author.Tests.{lt-leb, eq-eqb, eqb-true}
-use Rattle.base.specs.Lists.{tab}
+use Rattle.signs.specs.Lists.{tab}
 use Rattle.base.specs.Pack.{codeOf}
 use Rattle.base.specs.PackLaws.{short-name, code-known}
 use Rattle.record.specs.Operands.{maskFits, digitsFit, defaultA, defaultB, lanesFit}
@@ -36,12 +36,12 @@ use Rattle.record.specs.declared.SetType.{SetType}
 use Rattle.record.specs.declared.SlctType.{SlctType}
 use Rattle.record.specs.declared.Pred.{Pred}
 use Rattle.record.specs.declared.Word.{Word}
-use Rattle.rules.specs.Executing.{word, double, pred, operandPlace}
+use Rattle.record.specs.Registers.{word, double, pred, operandPlace, r, p}
 use Rattle.rules.specs.Shape.{at, nothing, OperandTree, inverted, pair, bare, part}
 use Rattle.rules.specs.Names.{selectorName, maskName, digitsName}
 use Rattle.rules.specs.Grammar as grammar
 use Rattle.rules.specs.Grammar.{GoodOperand, GoodOperands}
-use Rattle.rules.specs.StandardLine.{r, p, sameDigits, selectedTree, formTree, formLast, maskTree, digitsTree, conditionTree, combinationLast, destinationTree, lanesTrees}
+use Rattle.rules.specs.Spelling.{sameDigits, selectedTree, formTree, formLast, maskTree, digitsTree, conditionTree, combinationLast, destinationTree, lanesTrees}
 use Rattle.rules.specs.Reading.{OneOf, as-standard, as-written, Spelled, none, more, writtenLanes, OperandsSpell}
 use Rattle.tree.specs.Seen.{seenOperand, seenOperands, slot, spare, operandsKept}
 use Rattle.tree.specs.Blank.{noWord, noPred, noOperand, blank, blankForm, blankScalar, blankLanes, blankCombination, blankComparison, blankChoice}

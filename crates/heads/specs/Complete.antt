@@ -5,7 +5,7 @@ use mathlib.Core.Path.{_≡_, refl, sym, ap, _∙_}
 use mathlib.Core.Bool.{Bool, true, false}
 use mathlib.Core.List.{List, [], _∷_, _++_}
 use Rattle.base.specs.Pack.{codeOf}
-use Rattle.base.specs.Text.{bytes}
+use Rattle.signs.specs.Text.{bytes}
 use Rattle.base.specs.PackLaws.{short-code}
 use Rattle.record.specs.Modifiers.{instructionModifiersFit}
 use Rattle.record.specs.declared.VideoType.{VideoType}

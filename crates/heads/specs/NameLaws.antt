@@ -9,7 +9,7 @@ use Rattle.base.specs.Pack.{codeOf}
 use Rattle.base.specs.Values.{each}
 use Rattle.rules.specs.Shape.{Name}
 use Rattle.rules.specs.Names.{setTypeName, typeName, op2Name}
-use Rattle.rules.specs.Choices.{setTypes, types, op2s}
+use Rattle.laws.specs.Choices.{setTypes, types, op2s}
 use Rattle.record.specs.declared.SetType.{SetType}
 use Rattle.record.specs.declared.DataType.{DataType}
 use Rattle.record.specs.declared.Op2.{Op2}

@@ -6,7 +6,7 @@ ghost use Prim.Native.Nat.{_≤_};
 ghost use mathlib.Core.Path.{_≡_};
 ghost use mathlib.Core.Bool.{true};
 ghost use lib.ListN.{length};
-ghost use Rattle.rules.specs.Executing.{files};
+ghost use Rattle.record.specs.Registers.{files};
 ghost use Rattle.report.specs.Chunks.{lineRoom};
 ghost use Rattle.report.specs.OutputLaws.{Told};
 

@@ -18,7 +18,7 @@ use Rattle.text.specs.Digits.{zeroByte}
 use Rattle.rules.specs.Numbers.{lanes}
 use Rattle.rules.specs.Names.{laneLetter, maskName, digitsName}
 use Rattle.rules.specs.Grammar.{GoodName}
-use Rattle.rules.specs.StandardTree.{named, mask-named, digits-named}
+use Rattle.laws.specs.StandardTree.{named, mask-named, digits-named}
 use Rattle.base.specs.PackLaws.{code-known}
 use Rattle.masks.specs.Masks.{laneDigit, noLane, naming, comesNext, leftOf, falling, maskOf, digitsIn, digitsOf}
 use Rattle.masks.specs.Numbers.{lanesText, added, mask-spells, letter-spells}

@@ -8,11 +8,11 @@ use lib.Dec.{eqb}
 use borrow.Author.Tests.{eq-eqb, ne-eqb, eqb-true, not-true}
 use Rattle.base.specs.Pack.{pack, codeOf, isShortName, CodeOf}
 use Rattle.base.specs.PackLaws.{short-code}
-use Rattle.base.specs.Text.{bytes}
+use Rattle.signs.specs.Text.{bytes}
 use Rattle.base.specs.Values.{every, StandsAt, Values, at-place, each}
 use Rattle.rules.specs.Shape.{Name}
 use Rattle.rules.specs.Names.{videoTypeName, setTypeName, typeName, sixName, cmpName, boolName, op2Name, arithName, lanesName, laneArithName, selectorName}
-use Rattle.rules.specs.Choices.{videoTypes, setTypes, types, sixes, cmps, boolOps, op2s, laneAriths, selectors}
+use Rattle.laws.specs.Choices.{videoTypes, setTypes, types, sixes, cmps, boolOps, op2s, laneAriths, selectors}
 use Rattle.record.specs.declared.VideoType.{VideoType}
 use Rattle.record.specs.declared.SetType.{SetType}
 use Rattle.record.specs.declared.DataType.{DataType}

@@ -21,7 +21,7 @@ use Rattle.record.specs.declared.SlctType.{SlctType}
 use Rattle.record.specs.declared.Instruction.{Instruction}
 use Rattle.record.specs.declared.Instruction.the-variants.{Arithmetic, Vset, VsetLanes, ArithmeticLanes, Set, Setp, Selp, Slct}
 use Rattle.record.specs.declared.Record.{Record}
-use Rattle.rules.specs.Executing.{word, double, pred}
+use Rattle.record.specs.Registers.{word, double, pred}
 use Rattle.rules.specs.Shape.{Name}
 use Rattle.rules.specs.Names.{formOp2, combinationNames, headNames}
 use Rattle.rules.specs.Grammar.GoodNames.{more as name-more}

@@ -6,7 +6,7 @@ use native.Mathlib.Omega.{arith}
 use Rattle.record.specs.Refusals.{Legal}
 use Rattle.record.specs.declared.Record.{Record}
 use Rattle.rules.specs.StandardLine.{standard}
-use Rattle.rules.specs.StandardTree.{standard-relates}
+use Rattle.laws.specs.StandardTree.{standard-relates}
 use Rattle.rules.specs.Reading.{Relates, Refuses, Answer, read, refused, Answers, accepts, refuses}
 use Rattle.read.specs.Laws.{answers, answers-unique}
 use Rattle.read.specs.Mirror.{readOf}

@@ -6,14 +6,13 @@ use mathlib.Core.List.{List, [], _∷_, _++_}
 use lib.ListN.{length, take, drop}
 use lib.Seq.{take-append-seam}
 use borrow.Author.Tests.{le-ltb}
-use Rattle.base.specs.Text.{bytes}
+use Rattle.signs.specs.Text.{bytes}
 use Rattle.record.specs.Refusals.{Legal}
 use Rattle.record.specs.declared.Record.{Record}
-use Rattle.rules.specs.Executing.{Files}
+use Rattle.record.specs.Registers.{Files, at}
 use Rattle.rules.specs.StandardLine.{standard}
-use Rattle.rules.specs.LineLengths.{standard-fits}
+use Rattle.laws.specs.LineLengths.{standard-fits}
 use Rattle.rules.specs.Writing.{Answer, Outcome, written, refused, outcome, writing}
-use Rattle.rules.specs.ExecutionLaws.{at}
 use Rattle.text.specs.Buffer.{Buffer, buffer, Puts, _then_}
 use Rattle.text.specs.Digits.{decimal}
 use Rattle.report.specs.Listing.{lineText}

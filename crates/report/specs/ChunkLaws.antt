@@ -12,9 +12,10 @@ use lib.Dec.{ltb, leb}
 use borrow.Author.Tests.{ltb-true, ltb-false, leb-true, leb-false, eq-eqb, ne-eqb}
 use Rattle.record.specs.Refusals.{Legal}
 use Rattle.record.specs.declared.Record.{Record}
-use Rattle.rules.specs.Executing.{Files, run, done, skipped}
+use Rattle.record.specs.Registers.{Files}
+use Rattle.rules.specs.Executing.{run, done, skipped}
 use Rattle.rules.specs.Executing as executing
-use Rattle.rules.specs.LineLengths.{longestLine, standard-length}
+use Rattle.laws.specs.LineLengths.{longestLine, standard-length}
 use Rattle.rules.specs.Reading.{Answer, Answers, accepts, read, refused}
 use Rattle.text.specs.Buffer.{buffer, Puts, _then_, whole-front}
 use Rattle.text.specs.Digits.{decimal-short}

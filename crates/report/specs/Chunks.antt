@@ -5,9 +5,9 @@ use mathlib.Core.Bool.{cond}
 use mathlib.Core.List.{List, [], _∷_, _++_}
 use lib.ListN.{length, take, drop}
 use lib.Dec.{eqb, ltb}
-use Rattle.rules.specs.Executing.{Files}
+use Rattle.record.specs.Registers.{Files}
 use Rattle.rules.specs.Writing.{front}
-use Rattle.rules.specs.LineLengths.{longestLine}
+use Rattle.laws.specs.LineLengths.{longestLine}
 use Rattle.rules.specs.Reading.{Answer, Answers}
 use Rattle.text.specs.Buffer.{Buffer, Puts}
 use Rattle.text.specs.Digits.{mostDigits}

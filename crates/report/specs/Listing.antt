@@ -5,9 +5,10 @@ use mathlib.Core.Bool.{cond}
 use mathlib.Core.List.{List, [], _∷_, _++_}
 use lib.ListN.{length}
 use lib.Dec.{eqb}
-use Rattle.base.specs.Text.{bytes}
+use Rattle.signs.specs.Text.{bytes}
 use Rattle.record.specs.declared.Record.{Record}
-use Rattle.rules.specs.Executing.{Files, done, skipped, run}
+use Rattle.record.specs.Registers.{Files}
+use Rattle.rules.specs.Executing.{done, skipped, run}
 use Rattle.rules.specs.Executing as executing
 use Rattle.rules.specs.StandardLine.{standard}
 use Rattle.rules.specs.Reading.{Answer, read, refused, Answers}

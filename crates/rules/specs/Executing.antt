@@ -6,7 +6,7 @@ use mathlib.Core.List.{List, [], _∷_}
 use lib.ListN.{getD, set, length}
 use lib.Dec.{leb, eqb}
 use lib.Ieee.{unlike}
-use Rattle.record.specs.Registers.{wordCount, doubleCount, predCount}
+use Rattle.record.specs.Registers.{Files, files, Place, word, double, pred, r, p, operandPlace, wordCount, doubleCount, predCount}
 use Rattle.record.specs.Refusals.{isLegal}
 use Rattle.record.specs.declared.Word.{Word}
 use Rattle.record.specs.declared.Pred.{Pred}
@@ -29,21 +29,6 @@ use Rattle.record.specs.declared.Instruction.the-variants.{Arithmetic, Vset, Vs
 use Rattle.record.specs.declared.Record.{Record}
 use Rattle.rules.specs.Numbers.{bit, wordSize}
 use Rattle.rules.specs.Execution.{arithmeticOf, vsetOf, lanesOf, arithmeticLanesOf, comparisonOf, boolOf, setOf, selpOf, slctOf}
-
--- Three lent files: words, double-words, predicates
-pub record Files : Type 0 where
-  pub words : List ℕ
-  pub doubles : List ℕ
-  pub preds : List ℕ
-
-abbrev pub files : List ℕ → List ℕ → List ℕ → Files
-files ws ds ps = record { words = ws; doubles = ds; preds = ps }
-
--- `%r3`, `%rd3` and `%p3` are three different places
-pub data Place : Type 0 where
-  word : ℕ → Place
-  double : ℕ → Place
-  pred : ℕ → Place
 
 pub record Write : Type 0 where
   pub place : Place
@@ -93,10 +78,6 @@ abbrev pub formD : Form → Word
 formD (Plain d) = d
 formD (Merge d sel c) = d
 formD (Combine op d c) = d
-
-abbrev pub operandPlace : Operand → Place
-operandPlace (Operand.Word w) = word (w .0)
-operandPlace (Operand.Double d) = double (d .0)
 
 -- as much as the place holds: all of it where the widths agree, as in every legal record
 abbrev pub kept : Operand → ℕ → ℕ

@@ -3,9 +3,9 @@ use Prim.Native.Nat.{ℕ, _<_}
 use mathlib.Core.Path.{_≡_}
 use mathlib.Core.Bool.{Bool}
 use mathlib.Core.List.{List, [], _∷_, _++_, map}
-use Rattle.base.specs.Bytes.{isBlank, isNameByte, All, Some}
-use Rattle.base.specs.Text.{bytes}
-use Rattle.rules.specs.Executing.{Place, word, double, pred}
+use Rattle.signs.specs.Bytes.{isBlank, isNameByte, All, Some}
+use Rattle.signs.specs.Text.{bytes}
+use Rattle.record.specs.Registers.{Place, word, double, pred}
 use Rattle.rules.specs.Shape.{Name, headText, Spot, at, nothing, OperandTree, inverted, pair, bare, part, operandText, guardText}
 
 -- optionally a guard and at least one blank

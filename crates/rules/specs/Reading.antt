@@ -4,7 +4,7 @@ use mathlib.Core.Path.{_≡_}
 use mathlib.Core.Bool.{Bool, true, false}
 use mathlib.Core.List.{List, [], _∷_}
 use lib.ListN.{length}
-use Rattle.base.specs.Text.{bytes}
+use Rattle.signs.specs.Text.{bytes}
 use Rattle.record.specs.Modifiers.{instructionModifiersFit, modifiersFit}
 use Rattle.record.specs.Operands.{lanesFit, operandsFit}
 use Rattle.record.specs.Refusals.{numbersInRange, pairApart, Legal}
@@ -16,7 +16,8 @@ use Rattle.record.specs.declared.Instruction.the-variants.{Arithmetic, Vset, Vs
 use Rattle.record.specs.declared.Record.{Record}
 use Rattle.rules.specs.Shape.{Name, OperandTree, bare, part}
 use Rattle.rules.specs.Names.{headNames, maskName, digitsName}
-use Rattle.rules.specs.StandardLine.{r, p, operandTrees}
+use Rattle.record.specs.Registers.{r, p}
+use Rattle.rules.specs.Spelling.{operandTrees}
 use Rattle.rules.specs.Grammar.{LineTree, GuardTree, unguarded, guarded, namesOf, operandsOf, Shaped}
 
 -- ==== which record a line spells

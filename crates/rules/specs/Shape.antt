@@ -3,8 +3,8 @@ use Prim.Native.Nat.{ℕ, _+_, _/_, _%_}
 use mathlib.Core.Bool.{Bool, true, false, cond}
 use mathlib.Core.List.{List, [], _∷_, _++_}
 use lib.Dec.{ltb}
-use Rattle.base.specs.Text.{bytes}
-use Rattle.rules.specs.Executing.{Place, word, double, pred}
+use Rattle.signs.specs.Text.{bytes}
+use Rattle.record.specs.Registers.{Place, word, double, pred}
 
 -- Head: names joined by `.`; a name is one or more of a-z and 0-9
 abbrev pub Name : Type 0

@@ -7,8 +7,8 @@ use native.Mathlib.Omega.{arith}
 use borrow.Author.Tests.{lt-ltb, le-ltb, le-leb, ne-eqb, ltb-true, ltb-false, leb-true, eqb-true, eqb-false}
 use lib.Dec.{ltb, leb, eqb}
 use lib.ListN.{length, getD}
-use Rattle.base.specs.Bytes.{isDigit, All}
-use Rattle.base.specs.Bytes.All.{none, more}
+use Rattle.signs.specs.Bytes.{isDigit, All}
+use Rattle.signs.specs.Bytes.All.{none, more}
 use Rattle.rules.specs.Shape.{digit, numberText}
 use Rattle.rules.specs.Grammar.{numberLimit}
 use Rattle.scan.specs.RunLaws.{not-so, Stops, run-all, split}

@@ -4,7 +4,7 @@ use mathlib.Core.List.{List}
 use mathlib.Core.Bool.{cond}
 use lib.Dec.{eqb}
 use lib.ListN.{getD}
-use Rattle.base.specs.Bytes.{isDigit}
+use Rattle.signs.specs.Bytes.{isDigit}
 use Rattle.scan.specs.Runs.{run}
 use Rattle.scan.specs.declared.Number.{Number}
 use Rattle.scan.specs.declared.Number.the-variants.{Got, Bad}

@@ -7,9 +7,9 @@ use native.Mathlib.Omega.{arith}
 use borrow.Author.Tests.{ne-eqb, eqb-true}
 use lib.Dec.{eqb}
 use lib.ListN.{length, getD, drop}
-use Rattle.base.specs.Bytes.{isDigit}
-use Rattle.base.specs.Text.{bytes}
-use Rattle.rules.specs.Executing as executing
+use Rattle.signs.specs.Bytes.{isDigit}
+use Rattle.signs.specs.Text.{bytes}
+use Rattle.record.specs.Registers as files
 use Rattle.rules.specs.Shape.{numberText, registerText}
 use Rattle.rules.specs.Grammar.{numberLimit, GoodPlace}
 use Rattle.tree.specs.Seen.{seenPlace}
@@ -48,21 +48,21 @@ found : (f : File) (v : ℕ) (r : List ℕ) → v < numberLimit → Stops isDigi
 unfolding registerOf registerBy numbered
 found f v r h z = rw (prefix-found f v r, after-prefix f (numberText v ++ r), number-complete v r h z)
 
-pub register-complete : (p : executing.Place) (r : List ℕ) → GoodPlace p → Stops isDigit r → registerOf (registerText p ++ r) ≡ Got (seenPlace p) (length (registerText p))
-register-complete (executing.word v) r h z = found Words v r h z ∙ ap (Got (placeIn Words v)) (omega arith)
-register-complete (executing.double v) r h z = found Doubles v r h z ∙ ap (Got (placeIn Doubles v)) (omega arith)
-register-complete (executing.pred v) r h z = found Preds v r h z ∙ ap (Got (placeIn Preds v)) (omega arith)
+pub register-complete : (p : files.Place) (r : List ℕ) → GoodPlace p → Stops isDigit r → registerOf (registerText p ++ r) ≡ Got (seenPlace p) (length (registerText p))
+register-complete (files.word v) r h z = found Words v r h z ∙ ap (Got (placeIn Words v)) (omega arith)
+register-complete (files.double v) r h z = found Doubles v r h z ∙ ap (Got (placeIn Doubles v)) (omega arith)
+register-complete (files.pred v) r h z = found Preds v r h z ∙ ap (Got (placeIn Preds v)) (omega arith)
 
 -- a register begins with `%`
-pub register-first : (p : executing.Place) (l : List ℕ) → getD (registerText p ++ l) 0 0 ≡ 37
-register-first (executing.word v) l = refl
-register-first (executing.double v) l = refl
-register-first (executing.pred v) l = refl
+pub register-first : (p : files.Place) (l : List ℕ) → getD (registerText p ++ l) 0 0 ≡ 37
+register-first (files.word v) l = refl
+register-first (files.double v) l = refl
+register-first (files.pred v) l = refl
 
 -- ---- what is found is a register's text
 
 pub record RegisterAt (s : List ℕ) (p : Place) (n : ℕ) : Type 0 where
-  pub place : executing.Place
+  pub place : files.Place
   pub after : List ℕ
   pub whole : s ≡ registerText place ++ after
   pub good : GoodPlace place
@@ -109,15 +109,15 @@ is : (s : List ℕ) (f : File) (v : ℕ) (r : List ℕ) (k n : ℕ) (p : Place) 
 is s Words v r k n p e w h l z =
     let a : placeIn Words v ≡ p = cc in
     let b : k ≡ n = cc in
-    record { place = executing.word v; after = r; whole = w; good = h; sees = a; taken = omega arith; stops = z }
+    record { place = files.word v; after = r; whole = w; good = h; sees = a; taken = omega arith; stops = z }
 is s Doubles v r k n p e w h l z =
     let a : placeIn Doubles v ≡ p = cc in
     let b : k ≡ n = cc in
-    record { place = executing.double v; after = r; whole = w; good = h; sees = a; taken = omega arith; stops = z }
+    record { place = files.double v; after = r; whole = w; good = h; sees = a; taken = omega arith; stops = z }
 is s Preds v r k n p e w h l z =
     let a : placeIn Preds v ≡ p = cc in
     let b : k ≡ n = cc in
-    record { place = executing.pred v; after = r; whole = w; good = h; sees = a; taken = omega arith; stops = z }
+    record { place = files.pred v; after = r; whole = w; good = h; sees = a; taken = omega arith; stops = z }
 
 numbered-sound : (s : List ℕ) (f : File) (k : ℕ) → PrefixAt s f k → (o : Number) → numberOf (drop k s) ≡ o → (p : Place) (n : ℕ) → numbered f k o ≡ Got p n → RegisterAt s p n
 unfolding numbered

@@ -10,8 +10,8 @@ use borrow.Author.Tests.{le-leb}
 use lib.Dec.{leb}
 use lib.ListN.{length, getD, drop, take, length-drop, drop-of-length-le}
 use lib.Seq.{drop-cons, take-all, drop-append-add}
-use Rattle.base.specs.Bytes.{All}
-use Rattle.base.specs.Bytes.All.{none, more}
+use Rattle.signs.specs.Bytes.{All}
+use Rattle.signs.specs.Bytes.All.{none, more}
 use Rattle.scan.specs.Runs.{run, sum, most}
 
 -- false is not true

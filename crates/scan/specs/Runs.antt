@@ -3,7 +3,7 @@ use Prim.Native.Nat.{ℕ, suc, _+_, _-_}
 use mathlib.Core.List.{List, [], _∷_}
 use mathlib.Core.Bool.{Bool, cond}
 use lib.Dec.{leb}
-use Rattle.base.specs.Bytes.{isBlank, isDigit, isNameByte}
+use Rattle.signs.specs.Bytes.{isBlank, isDigit, isNameByte}
 use Rattle.scan.specs.declared.Class.{Class}
 use Rattle.scan.specs.declared.Class.the-variants.{Blank, Digit, Name}
 

@@ -8,7 +8,7 @@ use tree::Place;
 ghost use mathlib.Core.Path.{_≡_};
 ghost use Prim.Native.Nat.{_%_};
 ghost use lib.ListN.{getD, drop, take};
-ghost use Rattle.base.specs.Bytes.{isBlank, isDigit, isNameByte};
+ghost use Rattle.signs.specs.Bytes.{isBlank, isDigit, isNameByte};
 ghost use Rattle.base.specs.Pack.{radix, codeOf};
 ghost use Rattle.scan.specs.Runs.{sum, inClass, run};
 ghost use Rattle.scan.specs.Numbers.{digitOf, numberBy, numberOf};

@@ -8,7 +8,7 @@ use borrow.Author.Tests.{ne-eqb, le-ltb}
 use lib.Dec.{eqb}
 use lib.ListN.{length, getD, drop, length-append}
 use lib.Seq.{drop-append-seam}
-use Rattle.base.specs.Bytes.{isBlank, isNameByte, All, Some}
+use Rattle.signs.specs.Bytes.{isBlank, isNameByte, All, Some}
 use Rattle.rules.specs.Shape.{dotted, headText, operandText}
 use Rattle.rules.specs.Grammar.{LineTree, Good, lineText, guardTreeText, dividedText}
 use Rattle.rules.specs.Grammar.{operandsOf}

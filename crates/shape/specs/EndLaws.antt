@@ -6,7 +6,7 @@ use mathlib.Core.Bool.{Bool, true, false, cond}
 use native.Mathlib.Omega.{arith}
 use lib.Dec.{eqb}
 use lib.ListN.{length, getD, drop, take, length-drop}
-use Rattle.base.specs.Bytes.{isBlank, isNameByte}
+use Rattle.signs.specs.Bytes.{isBlank, isNameByte}
 use Rattle.base.specs.Pack.{codeOf}
 use Rattle.tree.specs.declared.Head.{Head}
 use Rattle.tree.specs.declared.Operands.{Operands}

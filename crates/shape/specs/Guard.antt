@@ -4,7 +4,7 @@ use mathlib.Core.List.{List}
 use mathlib.Core.Bool.{Bool, true, false, cond}
 use lib.Dec.{eqb}
 use lib.ListN.{getD, drop}
-use Rattle.base.specs.Bytes.{isBlank}
+use Rattle.signs.specs.Bytes.{isBlank}
 use Rattle.tree.specs.declared.Guarding.the-variants.{Unguarded, Guarded}
 use Rattle.scan.specs.Runs.{run, sum}
 use Rattle.scan.specs.Registers.{registerOf}

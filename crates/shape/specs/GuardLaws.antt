@@ -8,9 +8,9 @@ use borrow.Author.Tests.{ne-eqb}
 use lib.Dec.{eqb}
 use lib.ListN.{length, getD, length-append}
 use lib.Seq.{drop-append-seam}
-use Rattle.base.specs.Bytes.{isBlank, isDigit, isNameByte, All, Some}
-use Rattle.base.specs.Bytes.All.{none, more}
-use Rattle.rules.specs.Executing as executing
+use Rattle.signs.specs.Bytes.{isBlank, isDigit, isNameByte, All, Some}
+use Rattle.signs.specs.Bytes.All.{none, more}
+use Rattle.record.specs.Registers as files
 use Rattle.rules.specs.Shape.{Name, registerText}
 use Rattle.rules.specs.Grammar.{GuardTree, unguarded, guarded, guardTreeText, GoodPlace, GoodName, GoodGuard}
 use Rattle.tree.specs.Seen.{seenPlace, seenGuard}
@@ -52,7 +52,7 @@ name-no-blank b e = rw (apart isNameByte b 32 e refl, apart isNameByte b 9 e ref
 
 -- ---- the guard
 
-by-register : (negated : Bool) (k : ℕ) (p : executing.Place) (b r : List ℕ) → GoodPlace p → Some isBlank b → Stops isBlank r → k + length (registerText p) + length b ≤ most
+by-register : (negated : Bool) (k : ℕ) (p : files.Place) (b r : List ℕ) → GoodPlace p → Some isBlank b → Stops isBlank r → k + length (registerText p) + length b ≤ most
     → let w = registerText p ++ (b ++ r) in guardBy negated k (registerOf w) w ≡ Got (Guarded negated (seenPlace p)) (k + length (registerText p) + length b)
 unfolding guardBy
 by-register negated k p b r g s z m =

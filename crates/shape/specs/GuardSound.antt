@@ -8,9 +8,9 @@ use borrow.Author.Tests.{ne-eqb, eqb-true}
 use lib.Dec.{eqb}
 use lib.ListN.{length, getD, drop, length-append}
 use lib.Seq.{drop-append-seam}
-use Rattle.base.specs.Bytes.{isBlank, All, Some}
-use Rattle.base.specs.Bytes.All.{none, more}
-use Rattle.rules.specs.Executing as executing
+use Rattle.signs.specs.Bytes.{isBlank, All, Some}
+use Rattle.signs.specs.Bytes.All.{none, more}
+use Rattle.record.specs.Registers as files
 use Rattle.rules.specs.Shape.{registerText}
 use Rattle.rules.specs.Grammar.{GuardTree, unguarded, guarded, guardTreeText, GoodPlace, GoodGuard}
 use Rattle.tree.specs.Seen.{seenPlace, seenGuard}
@@ -31,7 +31,7 @@ never p g n e = let z : _≡_ {A = ℕ} 0 1 = cc in absurd (omega arith)
 
 -- a register and at least one blank, after k signs
 record SignedAt (w : List ℕ) (negated : Bool) (k : ℕ) (g : Guarding) (n : ℕ) : Type 0 where
-  place : executing.Place
+  place : files.Place
   blanks : List ℕ
   after : List ℕ
   whole : w ≡ (registerText place ++ blanks) ++ after

@@ -5,7 +5,7 @@ use mathlib.Core.List.{List}
 use mathlib.Core.Bool.{Bool, true, false, cond}
 use lib.Dec.{leb, eqb}
 use lib.ListN.{getD, take, set, replicate}
-use Rattle.base.specs.Bytes.{isNameByte}
+use Rattle.signs.specs.Bytes.{isNameByte}
 use Rattle.base.specs.Pack.{codeOf}
 use Rattle.tree.specs.Seen.{namesKept}
 use Rattle.tree.specs.declared.Head.{Head}

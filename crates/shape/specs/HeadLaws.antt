@@ -8,7 +8,7 @@ use borrow.Author.Tests.{ne-eqb}
 use lib.Dec.{eqb}
 use lib.ListN.{length, getD, length-append}
 use lib.Seq.{take-append-seam}
-use Rattle.base.specs.Bytes.{isNameByte}
+use Rattle.signs.specs.Bytes.{isNameByte}
 use Rattle.base.specs.Pack.{codeOf}
 use Rattle.rules.specs.Shape.{Name, dotted, headText}
 use Rattle.rules.specs.Grammar.{GoodName, GoodNames}

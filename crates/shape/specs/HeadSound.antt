@@ -7,8 +7,8 @@ use native.Mathlib.Omega.{arith}
 use borrow.Author.Tests.{eqb-true}
 use lib.Dec.{eqb}
 use lib.ListN.{length, getD, drop, length-append}
-use Rattle.base.specs.Bytes.{isNameByte, All}
-use Rattle.base.specs.Bytes.All.{none as no-byte, more as byte-more}
+use Rattle.signs.specs.Bytes.{isNameByte, All}
+use Rattle.signs.specs.Bytes.All.{none as no-byte, more as byte-more}
 use Rattle.base.specs.Pack.{codeOf}
 use Rattle.rules.specs.Shape.{Name, dotted, headText}
 use Rattle.rules.specs.Grammar.{GoodName, GoodNames}

@@ -4,7 +4,7 @@ use mathlib.Core.List.{List}
 use mathlib.Core.Bool.{true, false, cond}
 use lib.Dec.{eqb, ltb}
 use lib.ListN.{length, drop}
-use Rattle.base.specs.Bytes.{isBlank}
+use Rattle.signs.specs.Bytes.{isBlank}
 use Rattle.tree.specs.declared.Guarding.{Guarding}
 use Rattle.tree.specs.declared.Guarding.the-variants.{Unguarded}
 use Rattle.tree.specs.declared.Head.{Head}

@@ -6,7 +6,7 @@ use mathlib.Core.Bool.{Bool, true, false}
 use native.Mathlib.Omega.{arith}
 use lib.ListN.{length, getD, drop, length-append, length-map}
 use lib.Seq.{drop-append-seam, drop-append-add}
-use Rattle.base.specs.Bytes.{isBlank, All}
+use Rattle.signs.specs.Bytes.{isBlank, All}
 use Rattle.rules.specs.Shape.{OperandTree, operandText}
 use Rattle.rules.specs.Grammar.{Divided, dividedText, GoodOperand, GoodOthers}
 use Rattle.rules.specs.Grammar.GoodOthers.{none, more}

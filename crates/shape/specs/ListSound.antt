@@ -8,7 +8,7 @@ use borrow.Author.Tests.{eqb-true}
 use lib.Dec.{eqb}
 use lib.ListN.{length, getD, drop, length-append, length-map}
 use lib.Seq.{drop-append-seam}
-use Rattle.base.specs.Bytes.{isBlank, All}
+use Rattle.signs.specs.Bytes.{isBlank, All}
 use Rattle.rules.specs.Shape.{OperandTree, operandText}
 use Rattle.rules.specs.Grammar.{Divided, dividedText, GoodOperand, GoodOthers}
 use Rattle.rules.specs.Grammar.GoodOthers.{none, more}

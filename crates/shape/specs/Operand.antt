@@ -4,7 +4,7 @@ use mathlib.Core.List.{List}
 use mathlib.Core.Bool.{cond}
 use lib.Dec.{eqb}
 use lib.ListN.{getD, drop, take}
-use Rattle.base.specs.Bytes.{isNameByte}
+use Rattle.signs.specs.Bytes.{isNameByte}
 use Rattle.base.specs.Pack.{codeOf}
 use Rattle.scan.specs.Runs.{run, sum}
 use Rattle.scan.specs.Registers.{registerOf}

@@ -8,8 +8,8 @@ use borrow.Author.Tests.{ne-eqb, eqb-true}
 use lib.Dec.{eqb}
 use lib.ListN.{length, getD, length-append}
 use lib.Seq.{take-append-seam}
-use Rattle.base.specs.Bytes.{isBlank, isDigit, isNameByte, All}
-use Rattle.base.specs.Bytes.All.{none, more}
+use Rattle.signs.specs.Bytes.{isBlank, isDigit, isNameByte, All}
+use Rattle.signs.specs.Bytes.All.{none, more}
 use Rattle.base.specs.Pack.{codeOf}
 use Rattle.rules.specs.Shape.{Name, registerText, spotText, OperandTree, inverted, pair, bare, part, operandText}
 use Rattle.rules.specs.Shape as grammar

@@ -8,10 +8,10 @@ use borrow.Author.Tests.{ne-eqb, eqb-true}
 use lib.Dec.{eqb}
 use lib.ListN.{length, getD, drop, length-append}
 use lib.Seq.{take-append-seam, drop-append-add}
-use Rattle.base.specs.Bytes.{isNameByte, All}
-use Rattle.base.specs.Bytes.All.{none, more}
+use Rattle.signs.specs.Bytes.{isNameByte, All}
+use Rattle.signs.specs.Bytes.All.{none, more}
 use Rattle.base.specs.Pack.{codeOf}
-use Rattle.rules.specs.Executing as executing
+use Rattle.record.specs.Registers as files
 use Rattle.rules.specs.Shape.{registerText, spotText, OperandTree, inverted, pair, bare, part, operandText}
 use Rattle.rules.specs.Shape as grammar
 use Rattle.rules.specs.Grammar.{GoodPlace, GoodSpot, GoodOperand}
@@ -75,7 +75,7 @@ part-found : (s : List ℕ) (r : Place) (k : ℕ) (w b : List ℕ) → drop k s 
 unfolding partOf
 part-found s r k w b d a z = rw (d, run-all isNameByte b a z, take-append-seam w b)
 
-part-by : (s : List ℕ) (r : executing.Place) (k : ℕ) → length s ≤ most → GoodPlace r → k ≡ length (registerText r) + 1 → s ≡ registerText r ++ (46 ∷ drop k s) → (w b : List ℕ) → drop k s ≡ w ++ b → All isNameByte w
+part-by : (s : List ℕ) (r : files.Place) (k : ℕ) → length s ≤ most → GoodPlace r → k ≡ length (registerText r) + 1 → s ≡ registerText r ++ (46 ∷ drop k s) → (w b : List ℕ) → drop k s ≡ w ++ b → All isNameByte w
     → Stops isNameByte b → (o : Tree) (n : ℕ) → partOf (seenPlace r) k s ≡ Got o n → OperandAt s o n
 part-by s r k m h l q w b d none z o n e = never k o n (sym (part-found s (seenPlace r) k [] b d none z) ∙ e)
 part-by s r k m h l q w b d (more {b = x} {w = v} p a) z o n e =

@@ -5,7 +5,7 @@ use mathlib.Core.List.{List}
 use mathlib.Core.Bool.{true, false, cond}
 use lib.Dec.{leb, eqb}
 use lib.ListN.{getD, drop, set, replicate}
-use Rattle.base.specs.Bytes.{isBlank}
+use Rattle.signs.specs.Bytes.{isBlank}
 use Rattle.tree.specs.Seen.{operandsKept, spare}
 use Rattle.tree.specs.declared.Tree.{Tree}
 use Rattle.tree.specs.declared.Operands.{Operands}

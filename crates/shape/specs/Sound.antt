@@ -8,8 +8,8 @@ use borrow.Author.Tests.{ltb-false}
 use lib.Dec.{ltb}
 use lib.ListN.{length, drop, length-append}
 use lib.Seq.{drop-append-seam}
-use Rattle.base.specs.Bytes.{isBlank, All, Some}
-use Rattle.base.specs.Bytes.All.{none, more}
+use Rattle.signs.specs.Bytes.{isBlank, All, Some}
+use Rattle.signs.specs.Bytes.All.{none, more}
 use Rattle.rules.specs.Shape.{Name, headText, OperandTree, operandText}
 use Rattle.rules.specs.Grammar.{LineTree, Shaped, GuardTree, guardTreeText, Divided, dividedText, GoodGuard, GoodName, GoodNames, GoodOperand, GoodOthers}
 use Rattle.tree.specs.Seen.{seen, seenGuard, seenHead, seenOperands}

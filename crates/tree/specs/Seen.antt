@@ -3,7 +3,7 @@ use Prim.Native.Nat.{ℕ}
 use mathlib.Core.List.{List, _++_, map}
 use lib.ListN.{length, take, replicate}
 use Rattle.base.specs.Pack.{codeOf}
-use Rattle.rules.specs.Executing as executing
+use Rattle.record.specs.Registers as files
 use Rattle.rules.specs.Shape.{Name, OperandTree, inverted, pair, bare, part}
 use Rattle.rules.specs.Shape as shape
 use Rattle.rules.specs.Grammar.{LineTree, GuardTree, unguarded, guarded, namesOf, operandsOf}
@@ -20,10 +20,10 @@ use Rattle.tree.specs.declared.Guarding.{Guarding}
 use Rattle.tree.specs.declared.Guarding.the-variants.{Unguarded, Guarded}
 use Rattle.tree.specs.declared.Parts.{Parts}
 
-abbrev pub seenPlace : executing.Place → Place
-seenPlace (executing.word n) = Word (record { 0 = n })
-seenPlace (executing.double n) = Double (record { 0 = n })
-seenPlace (executing.pred n) = Pred (record { 0 = n })
+abbrev pub seenPlace : files.Place → Place
+seenPlace (files.word n) = Word (record { 0 = n })
+seenPlace (files.double n) = Double (record { 0 = n })
+seenPlace (files.pred n) = Pred (record { 0 = n })
 
 abbrev pub seenSpot : shape.Spot → Spot
 seenSpot (shape.at p) = At (seenPlace p)

@@ -12,11 +12,11 @@ use borrow.Author.Tests.{ne-eqb, le-leb, ltb-true, ltb-false}
 use Rattle.record.specs.declared.Lanes.{Lanes}
 use Rattle.record.specs.declared.LaneWidth.{LaneWidth}
 use Rattle.record.specs.declared.LaneWidth.the-variants.{Half, Byte}
-use Rattle.base.specs.Lists.{tab}
+use Rattle.signs.specs.Lists.{tab}
 use Rattle.base.specs.Moved.{un-low, un-high, un-up, un-down}
 use Rattle.rules.specs.Numbers.{wordSize, size, lanes, partAt, joined, exactOf, lowOf}
 use Rattle.rules.specs.Execution.{replaced, mergedLane, merged, averageZ, groupOf}
-use Rattle.rules.specs.ExecutionLaws.{size-pos, either-lt, part-lt, lane-lt, low-lt, group-same}
+use Rattle.laws.specs.ExecutionLaws.{size-pos, either-lt, part-lt, lane-lt, low-lt, group-same}
 use Rattle.video.specs.Exact.{bias, exactly, StandFor, rejoinedOf}
 
 -- ---- parts

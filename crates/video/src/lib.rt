@@ -19,7 +19,7 @@ ghost use mathlib.Core.Bool.{cond};
 ghost use Prim.Native.Nat.{_+_, _%_, _^_, _<_, _≤_};
 ghost use lib.IntN.{pos, _+ℤ_, _-ℤ_};
 ghost use lib.ListN.{getD};
-ghost use Rattle.base.specs.Lists.{tab};
+ghost use Rattle.signs.specs.Lists.{tab};
 ghost use Rattle.rules.specs.Numbers.{wordSize, size, lanes, partAt, exactOf, isSigned, lowOf, minZ, maxZ, bit, holdsZ};
 ghost use Rattle.rules.specs.Execution.{selectorWidth, selectorPart, selectedOf, arithZ, lowestZ, highestZ, formSize, clampedOf, op2Z, replaced, formOf, arithmeticOf, vsetOf, maskAt, numbered, laneNumber, merged, lanesOf, averageZ, laneArithZ, sumZ, groupOf, arithmeticLanesOf};
 ghost use Rattle.video.specs.Exact.{bias, exactly, Near, Wide, StandFor, AllNear, AllWide, rejoinedOf};

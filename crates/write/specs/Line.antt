@@ -4,7 +4,7 @@ use mathlib.Core.Bool.{false}
 use mathlib.Core.List.{List, _++_}
 use lib.Dec.{ltb}
 use lib.ListN.{length}
-use Rattle.base.specs.Text.{bytes}
+use Rattle.signs.specs.Text.{bytes}
 use Rattle.rules.specs.Writing.{Outcome, firstRefusal, decided}
 use Rattle.base.specs.Pack.{spelled}
 use Rattle.write.specs.declared.Texts.{Texts}

@@ -4,7 +4,7 @@ use native.Mathlib.Omega.{arith}
 use mathlib.Core.Path.{_≡_, refl, sym, ap, _∙_}
 use mathlib.Core.Bool.{Bool, true, false, cond}
 use mathlib.Core.List.{List, [], _∷_, _++_, append-assoc, append-nil}
-use Rattle.base.specs.Text.{bytes}
+use Rattle.signs.specs.Text.{bytes}
 use Rattle.base.specs.Pack.{radix, unpacked, spelled, Spells}
 use Rattle.base.specs.PackLaws.{unpacked-none, text-of, text-more, spells-more, written}
 use Rattle.record.specs.declared.Choice.{Choice}
@@ -12,10 +12,11 @@ use Rattle.record.specs.declared.Cmp6.{Cmp6}
 use Rattle.record.specs.declared.Condition.{Condition}
 use Rattle.record.specs.declared.Guard.the-variants.{When}
 use Rattle.record.specs.declared.VideoType.{VideoType}
-use Rattle.rules.specs.Executing.{operandPlace}
+use Rattle.record.specs.Registers.{operandPlace, p}
 use Rattle.rules.specs.Shape.{Name, dotted, headText, registerText, spotText, OperandTree, inverted, pair, bare, part, operandText, guardText}
 use Rattle.rules.specs.Names.{videoTypeName, sixName, when}
-use Rattle.rules.specs.StandardLine.{p, conditionTree, guardPart, further}
+use Rattle.rules.specs.Spelling.{conditionTree}
+use Rattle.rules.specs.StandardLine.{guardPart, further}
 use Rattle.write.specs.declared.Piece.{Piece}
 
 -- ==== guards

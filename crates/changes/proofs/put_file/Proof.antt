@@ -4,7 +4,7 @@ use native.Mathlib.Numerals.{add-one}
 use native.Mathlib.Omega.{arith}
 use mathlib.Core.Path.{_≡_}
 use lib.ListN.{length}
-use Rattle.rules.specs.Executing.{files}
+use Rattle.record.specs.Registers.{files}
 use Rattle.text.specs.Buffer.{buffer, Puts, same, _then_}
 use Rattle.changes.specs.Changes.{changesText}
 use Rattle.changes.specs.Registers.{placeOf}

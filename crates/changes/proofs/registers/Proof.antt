@@ -8,7 +8,7 @@ use denote.Triple.Clauses.{AtExit}
 use borrow.Fn.Kinds.{Dens, endedOf}
 use contract.Lifetimes.{Lfts}
 use denote.Ref.{now}
-use Rattle.rules.specs.Executing.{files}
+use Rattle.record.specs.Registers.{files}
 use Rattle.text.specs.Buffer.{_then_}
 use Rattle.changes.specs.Changes.{registersText}
 use Rattle.changes.proofs.Laws.{registers-printed}

@@ -10,8 +10,8 @@ use native.Mathlib.Omega.{arith}
 use mathlib.Core.Path.{_≡_, refl}
 use mathlib.Core.List.{List, _++_}
 use lib.ListN.{drop, replicate}
-use Rattle.base.specs.Lists.{tab}
-use Rattle.rules.specs.Executing.{double}
+use Rattle.signs.specs.Lists.{tab}
+use Rattle.record.specs.Registers.{double}
 use Rattle.changes.specs.Changes.{startValue, startFiles}
 use Rattle.changes.proofs.Laws.{set-more, set-all}
 use Rattle.changes.proofs.start_doubles.Statement.{statement}

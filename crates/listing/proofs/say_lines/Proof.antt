@@ -5,7 +5,7 @@ use native.Mathlib.Omega.{arith}
 use mathlib.Core.Path.{_≡_, subst}
 use mathlib.Core.Bool.{Bool, true, false}
 use lib.ListN.{length}
-use Rattle.rules.specs.Executing.{files}
+use Rattle.record.specs.Registers.{files}
 use Rattle.report.specs.Chunks.{lineRoom}
 use Rattle.report.specs.OutputLaws.{Called, none-called, called, call-goes-on, told}
 use Rattle.listing.proofs.say_lines.Statement.{statement}

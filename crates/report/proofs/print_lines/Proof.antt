@@ -7,7 +7,7 @@ use Prim.Native.Nat.{_-_, _≤_}
 use native.Mathlib.Omega.{arith}
 use mathlib.Core.Path.{_≡_, sym, _∙_}
 use lib.ListN.{length, drop}
-use Rattle.rules.specs.Executing.{files}
+use Rattle.record.specs.Registers.{files}
 use Rattle.report.specs.ChunkLaws.{Going, begins, goes-on, stops, further-on}
 use Rattle.report.proofs.print_lines.Statement.{statement}
 use Rattle.report.proofs.print_lines.Tie as tie

@@ -1,6 +1,6 @@
 use native.Mathlib.Nat.{sub-zero}
 use native.Mathlib.Omega.{arith}
-use Rattle.rules.specs.LineLengths.{standard-fits}
+use Rattle.laws.specs.LineLengths.{standard-fits}
 use mathlib.Core.Path.{refl}
 use Rattle.report.proofs.Laws.{wrote-length, wrote-text, not-refused}
 use borrow.Author.Needs.{needs}

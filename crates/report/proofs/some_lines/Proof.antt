@@ -6,7 +6,7 @@ use denote.Triple.Clauses.{AtExit}
 use borrow.Fn.Kinds.{Dens, endedOf}
 use contract.Lifetimes.{Lfts}
 use denote.Ref.{now}
-use Rattle.rules.specs.Executing.{files}
+use Rattle.record.specs.Registers.{files}
 use borrow.Author.Needs.{needs}
 use Rattle.report.proofs.some_lines.Statement.{statement}
 use Rattle.report.proofs.some_lines.Tie as tie

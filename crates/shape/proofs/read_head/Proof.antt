@@ -9,7 +9,7 @@ use lib.ListN.{getD, set, drop, take}
 use borrow.Author.Needs.{needs}
 use borrow.Author.Tests.{not-true, not-false, eq-eqb, ne-eqb, le-leb, lt-leb}
 use denote.Ref.{now}
-use Rattle.base.specs.Bytes.{isNameByte}
+use Rattle.signs.specs.Bytes.{isNameByte}
 use Rattle.base.specs.Pack.{codeOf}
 use Rattle.tree.specs.Seen.{namesKept}
 use Rattle.tree.specs.declared.Head.{Head}

@@ -7,7 +7,7 @@ use lib.IntN.{ℤ, pos}
 use Rattle.base.specs.Promise.{one-outcome}
 use Rattle.rules.specs.Numbers.{bit, holdsZ}
 use Rattle.rules.specs.Execution.{laneNumber, laneHolds}
-use Rattle.rules.specs.ExecutionLaws.{vset-group}
+use Rattle.laws.specs.ExecutionLaws.{vset-group}
 use Rattle.video.proofs.Laws.{by-sides}
 use Rattle.video.proofs.vset_lanes.Reads as reads
 use Rattle.video.proofs.vset_lanes.Kinds as kinds

@@ -1,5 +1,5 @@
 use Rattle.base.specs.PackLaws.{wider, spells-more, written}
-use Rattle.base.specs.Text.{bytes}
+use Rattle.signs.specs.Text.{bytes}
 use native.Mathlib.Omega.{arith}
 use mathlib.Core.Path.{refl}
 use mathlib.Core.List.{[]}

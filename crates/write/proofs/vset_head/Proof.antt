@@ -1,5 +1,5 @@
 use Rattle.base.specs.PackLaws.{written}
-use Rattle.base.specs.Text.{bytes}
+use Rattle.signs.specs.Text.{bytes}
 use mathlib.Core.Path.{refl}
 use borrow.Author.Needs.{needs}
 use Rattle.write.proofs.vset_head.Statement.{statement}

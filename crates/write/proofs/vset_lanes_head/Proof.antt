@@ -1,6 +1,6 @@
 use Rattle.base.specs.PackLaws.{written}
 use Rattle.write.specs.Pieces.{if-name}
-use Rattle.base.specs.Text.{bytes}
+use Rattle.signs.specs.Text.{bytes}
 use mathlib.Core.Path.{refl}
 use borrow.Author.Needs.{needs}
 use Rattle.write.proofs.vset_lanes_head.Statement.{statement}

@@ -27,9 +27,10 @@ use Rattle.record.specs.declared.Destination.the-variants.{Pair}
 use Rattle.record.specs.declared.Instruction.{Instruction}
 use Rattle.record.specs.declared.Instruction.the-variants.{Setp}
 use Rattle.record.specs.declared.Record.{Record}
 use Rattle.rules.specs.Numbers.{wordSize, size, lanes, partAt, joined, lowOf, bit}
 use Rattle.rules.specs.Execution.{replaced, maskAt, laneHolds, mergedLane, merged, count, lanesOf, halved, laneResult, sumZ, groupOf, arithmeticLanesOf, boolOf}
-use Rattle.rules.specs.Executing.{Files, Place, word, double, pred, Write, write, writes, put, putAll, after, predOf, combinedOf, testOf, done, guarded, decided, run, firstRefusal, guardHolds, sizesFit, predsFit}
+use Rattle.record.specs.Registers.{Files, Place, word, double, pred, at}
+use Rattle.rules.specs.Executing.{Write, write, writes, put, putAll, after, predOf, combinedOf, testOf, done, guarded, decided, run, firstRefusal, guardHolds, sizesFit, predsFit}
 
 -- ==== parts of a word, once over the number n of a part's values
 
@@ -199,12 +200,6 @@ module _ (w : LaneWidth) (k c v : ℕ) (small : v < size w) where
   other-parts-stay i h n = part-replaced i h ∙ rw (ne-eqb i k n)
 
 -- ==== places
-
--- what a place holds
-abbrev pub at : Files → Place → ℕ
-at f (word n) = getD (f .words) n 0
-at f (double n) = getD (f .doubles) n 0
-at f (pred n) = getD (f .preds) n 0
 
 -- the place is in its file
 abbrev pub InFile : Place → Files → Type 0

@@ -7,12 +7,12 @@ use mathlib.Core.List.{List, [], _∷_, _++_, map, tail, append-nil, append-asso
 use lib.Dec.{lit<}
 use lib.ListN.{length}
 use borrow.Author.Tests.{ltb-true, le-leb}
-use Rattle.base.specs.Text.{bytes}
-use Rattle.base.specs.Bytes.{isBlank, isNameByte, Some}
+use Rattle.signs.specs.Text.{bytes}
+use Rattle.signs.specs.Bytes.{isBlank, isNameByte, Some}
 use Rattle.base.specs.Values.{every, each}
 use Rattle.base.specs.PackLaws.{all-of}
-use Rattle.base.specs.Bytes
-use Rattle.record.specs.Registers.{wordInFile, predInFile}
+use Rattle.signs.specs.Bytes
+use Rattle.record.specs.Registers.{wordInFile, predInFile, Place, word, operandPlace, r, p}
 use Rattle.record.specs.Operands.{fullMask, defaultA, defaultB, instructionOperandsFit}
 use Rattle.record.specs.Refusals.{isLegal, Legal, conditionInRange, guardInRange, selectedInRange, formInRange, scalarInRange, lanesInRange, operandInRange, combinationInRange, comparisonInRange, destinationInRange, choiceInRange, instructionInRange}
 use Rattle.record.specs.declared.VideoType.{VideoType}
@@ -53,16 +53,16 @@ use Rattle.record.specs.declared.Destination.the-variants.{One, Pair, First, Se
 use Rattle.record.specs.declared.Instruction.{Instruction}
 use Rattle.record.specs.declared.Instruction.the-variants.{Arithmetic, Vset, VsetLanes, ArithmeticLanes, Set, Setp, Selp, Slct}
 use Rattle.record.specs.declared.Record.{Record}
-use Rattle.rules.specs.Executing.{Place, word, operandPlace}
 use Rattle.rules.specs.Shape.{Name, digit, OperandTree, bare}
 use Rattle.rules.specs.Names.{videoTypeName, setTypeName, typeName, sixName, cmpName, boolName, op2Name, arithName, lanesName, laneArithName, when, formOp2, combinationNames, headNames, selectorName, maskName, digitsName}
-use Rattle.rules.specs.Choices.{videoTypes, setTypes, types, sixes, cmps, boolOps, op2s, ariths, laneAriths, widths, selectors}
-use Rattle.rules.specs.StandardLine.{r, p, selectedTree, formTree, formLast, sameMask, sameDigits, maskTree, digitsTree, conditionTree, combinationLast, destinationTree, scalarTrees, lanesTrees, sourceTrees, choiceTrees, operandTrees, guardPart, further, standard}
-use Rattle.rules.specs.LineLengths.{standard-fits}
+use Rattle.laws.specs.Choices.{videoTypes, setTypes, types, sixes, cmps, boolOps, op2s, ariths, laneAriths, widths, selectors}
+use Rattle.rules.specs.Spelling.{selectedTree, formTree, formLast, sameMask, sameDigits, maskTree, digitsTree, conditionTree, combinationLast, destinationTree, scalarTrees, lanesTrees, sourceTrees, choiceTrees, operandTrees}
+use Rattle.rules.specs.StandardLine.{guardPart, further, standard}
+use Rattle.laws.specs.LineLengths.{standard-fits}
 use Rattle.rules.specs.Grammar
 use Rattle.rules.specs.Grammar.{GuardTree, unguarded, guarded, guardTreeText, Divided, dividedText, LineTree, lineText, GoodPlace, GoodName, GoodNames, GoodOperand, GoodGuard, GoodOperands, GoodOthers, Good}
 use Rattle.rules.specs.Reading
 use Rattle.rules.specs.Reading.{GuardSpells, writtenTrees, as-standard, Spelled, lanesNamed, Spells, Relates}
 
 -- ==== the tree
 

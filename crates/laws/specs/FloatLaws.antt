@@ -18,9 +18,9 @@ use Rattle.record.specs.declared.CmpOp
 use Rattle.record.specs.declared.CmpOp.{CmpOp}
 use Rattle.record.specs.declared.SlctType
 use Rattle.record.specs.declared.SlctType.{SlctType}
 use Rattle.rules.specs.Numbers.{holdsZ}
 use Rattle.rules.specs.Execution.{flushed, unordered, floatHolds, notBelowZero, slctOf}
-use Rattle.rules.specs.FloatOrder.{signMagnitude, nan-pattern, lt-pattern, eq-pattern, lt-nan-left, lt-nan-right, eq-nan-left, eq-nan-right}
+use Rattle.laws.specs.FloatOrder.{signMagnitude, nan-pattern, lt-pattern, eq-pattern, lt-nan-left, lt-nan-right, eq-nan-left, eq-nan-right}
 
 -- ==== with a NaN
 

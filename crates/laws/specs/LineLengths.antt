@@ -7,7 +7,7 @@ use mathlib.Core.List.{List, [], _∷_, _++_, map}
 use lib.Dec.{eqb, leb, ltb, lit≤}
 use lib.ListN.{length, length-append}
 use borrow.Author.Tests.{eqb-true, leb-true, ltb-true, ltb-false}
-use Rattle.base.specs.Text.{bytes}
+use Rattle.signs.specs.Text.{bytes}
 use Rattle.base.specs.Values.{Values, every, each}
 use Rattle.record.specs.Operands.{fullMask, defaultA, defaultB}
 use Rattle.record.specs.Refusals.{isLegal, Legal, guardInRange, selectedInRange, formInRange, lanesInRange, operandInRange, combinationInRange, destinationInRange, instructionInRange}
@@ -48,12 +48,13 @@ use Rattle.record.specs.declared.Destination.the-variants.{One, Pair, First, Se
 use Rattle.record.specs.declared.Instruction.{Instruction}
 use Rattle.record.specs.declared.Instruction.the-variants.{Arithmetic, Vset, VsetLanes, ArithmeticLanes, Set, Setp, Selp, Slct}
 use Rattle.record.specs.declared.Record.{Record}
 use Rattle.rules.specs.Numbers.{lanes, bit}
-use Rattle.rules.specs.Executing.{Place, operandPlace}
+use Rattle.record.specs.Registers.{Place, operandPlace, r, p}
 use Rattle.rules.specs.Shape.{Name, dotted, headText, numberText, registerText, OperandTree, bare, operandText, guardText}
 use Rattle.rules.specs.Names.{videoTypeName, setTypeName, typeName, sixName, cmpName, boolName, op2Name, arithName, lanesName, laneArithName, when, formOp2, combinationNames, headNames, selectorName, digitsName}
-use Rattle.rules.specs.Choices.{videoTypes, setTypes, types, sixes, cmps, boolOps, op2s, ariths, laneAriths, widths, selectors}
-use Rattle.rules.specs.StandardLine.{r, p, selectedTree, formTree, formLast, sameMask, sameDigits, maskTree, digitsTree, conditionTree, combinationLast, destinationTree, lanesTrees, operandTrees, guardPart, further, operandsText, standard}
+use Rattle.laws.specs.Choices.{videoTypes, setTypes, types, sixes, cmps, boolOps, op2s, ariths, laneAriths, widths, selectors}
+use Rattle.rules.specs.Spelling.{selectedTree, formTree, formLast, sameMask, sameDigits, maskTree, digitsTree, conditionTree, combinationLast, destinationTree, lanesTrees, operandTrees}
+use Rattle.rules.specs.StandardLine.{guardPart, further, operandsText, standard}
 
 -- ==== pieces with k bytes before each, and with k bytes between two
 

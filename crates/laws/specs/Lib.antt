@@ -1,0 +1,6 @@
+pub mod ExecutionLaws
+pub mod FloatOrder
+pub mod FloatLaws
+pub mod Choices
+pub mod LineLengths
+pub mod StandardTree

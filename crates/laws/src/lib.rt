@@ -1,0 +1,1 @@
+// Laws of the rules, which several crates cite: no code, and nothing that has to be believed.

@@ -1,0 +1,1 @@
+// Bytes, texts and lists as the rules speak of them: definitions, no code.
