@@ -26,7 +26,7 @@ use Rattle.record.specs.declared.Destination.the-variants.{One}
 use Rattle.record.specs.declared.Instruction.{Instruction}
 use Rattle.record.specs.declared.Instruction.the-variants.{Arithmetic, Vset, VsetLanes, ArithmeticLanes, Set, Setp, Selp, Slct}
 use Rattle.rules.specs.Shape.{Name}
-use Rattle.rules.specs.Names.{videoTypeName, setTypeName, typeName, sixName, cmpName, arithName, lanesName, laneArithName, when, formOp2, combinationNames, headNames}
+use Rattle.rules.specs.Names.{videoTypeName, setTypeName, typeName, sixName, cmpName, arithName, lanesName, laneArithName, braced, formOp2, combinationNames, headNames}
 use Rattle.tree.specs.Seen.{seenHead}
 use Rattle.tree.specs.Blank.{noWord, noPred, blankForm, blankCombination, blankChoice, blank}
 use Rattle.tree.specs.declared.Head.{Head}
@@ -67,13 +67,13 @@ vset-complete c a b (Merge d sel e) = rw (compared-complete (bytes "vset") a b c
 vset-complete c a b (Combine op d e) = rw (compared-complete (bytes "vset") a b c (formOp2 (Combine op d e)), op2-complete op)
 
 lanes-complete : (c : Cmp6) (w : LaneWidth) (a b : VideoType) (add : Bool)
-    → lanesRow w (seenHead (lanesName w ∷ videoTypeName a ∷ videoTypeName b ∷ sixName c ∷ when add (bytes "add"))) ≡ Read.Is (VsetLanes c (lanesOf w a b add))
+    → lanesRow w (seenHead (lanesName w ∷ videoTypeName a ∷ videoTypeName b ∷ sixName c ∷ braced add (bytes "add"))) ≡ Read.Is (VsetLanes c (lanesOf w a b add))
 unfolding lanesRow lanesBy wholeOf nameAt seenHead codeOf
 lanes-complete c w a b true = rw (compared-complete (lanesName w) a b c (bytes "add" ∷ []))
 lanes-complete c w a b false = rw (compared-complete (lanesName w) a b c [])
 
 arithmetic-complete : (op : Arith) (d a b : VideoType) (sat : Bool) (f : Form)
-    → arithmeticOf op (seenHead (arithName op ∷ videoTypeName d ∷ videoTypeName a ∷ videoTypeName b ∷ (when sat (bytes "sat") ++ formOp2 f)))
+    → arithmeticOf op (seenHead (arithName op ∷ videoTypeName d ∷ videoTypeName a ∷ videoTypeName b ∷ (braced sat (bytes "sat") ++ formOp2 f)))
     ≡ Read.Is (Arithmetic op d sat (scalarOf a b (blankForm f)))
 unfolding arithmeticOf arithmeticFrom arithmeticBy typedOf typedBy sidesAt sidesBy endingAt endingBy wholeOf nameAt seenHead
 arithmetic-complete op d a b true (Plain e) = rw (short-code (bytes "sat") refl, video-complete d, video-complete a, video-complete b, op2-none)
@@ -85,7 +85,7 @@ arithmetic-complete op d a b false (Combine o e g) = rw (op2-sat o, video-comple
 
 lane-arithmetic-complete : (op : LaneArith) (w : LaneWidth) (d a b : VideoType) (sat add : Bool)
     → laneArithmeticOf op w
-    (seenHead (laneArithName op w ∷ videoTypeName d ∷ videoTypeName a ∷ videoTypeName b ∷ (when sat (bytes "sat") ++ when add (bytes "add"))))
+    (seenHead (laneArithName op w ∷ videoTypeName d ∷ videoTypeName a ∷ videoTypeName b ∷ (braced sat (bytes "sat") ++ braced add (bytes "add"))))
     ≡ Read.Is (ArithmeticLanes op d sat (lanesOf w a b add))
 unfolding laneArithmeticOf laneArithmeticFrom laneArithmeticBy typedOf typedBy sidesAt sidesBy wholeOf nameAt seenHead codeOf
 lane-arithmetic-complete op w d a b true true = rw (video-complete d, video-complete a, video-complete b)
@@ -104,7 +104,7 @@ testOf c b ftz = record { cmp = c; combination = blankCombination b; ftz = ftz; 
 
 -- CmpOp {BoolOp} {ftz}, and a name that is neither
 tested-complete : (op : Name) (c : CmpOp) (b : Combination) (ftz : Bool) (w : Name) (ns : List Name) → Skips w
-    → testedOf (seenHead (op ∷ cmpName c ∷ (combinationNames b ++ when ftz (bytes "ftz") ++ w ∷ ns))) ≡ Tested.Is (testOf c b ftz)
+    → testedOf (seenHead (op ∷ cmpName c ∷ (combinationNames b ++ braced ftz (bytes "ftz") ++ w ∷ ns))) ≡ Tested.Is (testOf c b ftz)
 unfolding testedOf testedBy testAt nameAt seenHead
 tested-complete op c Alone true w ns h = rw (short-code (bytes "ftz") refl, cmp-complete c, ftz-bool)
 tested-complete op c Alone false w ns h = rw (cmp-complete c, h .bool, h .ftz)
@@ -112,7 +112,7 @@ tested-complete op c (With o e) true w ns h = rw (short-code (bytes "ftz") refl,
 tested-complete op c (With o e) false w ns h = rw (cmp-complete c, bool-complete o, h .ftz)
 
 set-at-complete : (d : SetType) (c : CmpOp) (b : Combination) (ftz : Bool) (s : DataType)
-    → setAt (seenHead (bytes "set" ∷ cmpName c ∷ (combinationNames b ++ when ftz (bytes "ftz") ++ setTypeName d ∷ typeName s ∷ []))) (testOf c b ftz)
+    → setAt (seenHead (bytes "set" ∷ cmpName c ∷ (combinationNames b ++ braced ftz (bytes "ftz") ++ setTypeName d ∷ typeName s ∷ []))) (testOf c b ftz)
     ≡ Read.Is (Set d noWord (comparisonOf (testOf c b ftz) s))
 unfolding setAt setBy wholeOf nameAt seenHead
 set-at-complete d c Alone true s = rw (set-type-complete d, type-complete s)
@@ -121,13 +121,13 @@ set-at-complete d c (With o e) true s = rw (set-type-complete d, type-complete s
 set-at-complete d c (With o e) false s = rw (set-type-complete d, type-complete s)
 
 set-complete : (d : SetType) (c : CmpOp) (b : Combination) (ftz : Bool) (s : DataType)
-    → setOf (seenHead (bytes "set" ∷ cmpName c ∷ (combinationNames b ++ when ftz (bytes "ftz") ++ setTypeName d ∷ typeName s ∷ [])))
+    → setOf (seenHead (bytes "set" ∷ cmpName c ∷ (combinationNames b ++ braced ftz (bytes "ftz") ++ setTypeName d ∷ typeName s ∷ [])))
     ≡ Read.Is (Set d noWord (comparisonOf (testOf c b ftz) s))
 unfolding setOf setFrom
 set-complete d c b ftz s = rw (tested-complete (bytes "set") c b ftz (setTypeName d) (typeName s ∷ []) (set-type-skips d)) (set-at-complete d c b ftz s)
 
 setp-at-complete : (c : CmpOp) (b : Combination) (ftz : Bool) (s : DataType)
-    → setpAt (seenHead (bytes "setp" ∷ cmpName c ∷ (combinationNames b ++ when ftz (bytes "ftz") ++ typeName s ∷ []))) (testOf c b ftz)
+    → setpAt (seenHead (bytes "setp" ∷ cmpName c ∷ (combinationNames b ++ braced ftz (bytes "ftz") ++ typeName s ∷ []))) (testOf c b ftz)
     ≡ Read.Is (Setp (One noPred) (comparisonOf (testOf c b ftz) s))
 unfolding setpAt setpBy wholeOf nameAt seenHead
 setp-at-complete c Alone true s = rw (type-complete s)
@@ -136,7 +136,7 @@ setp-at-complete c (With o e) true s = rw (type-complete s)
 setp-at-complete c (With o e) false s = rw (type-complete s)
 
 setp-complete : (c : CmpOp) (b : Combination) (ftz : Bool) (s : DataType)
-    → setpOf (seenHead (bytes "setp" ∷ cmpName c ∷ (combinationNames b ++ when ftz (bytes "ftz") ++ typeName s ∷ [])))
+    → setpOf (seenHead (bytes "setp" ∷ cmpName c ∷ (combinationNames b ++ braced ftz (bytes "ftz") ++ typeName s ∷ [])))
     ≡ Read.Is (Setp (One noPred) (comparisonOf (testOf c b ftz) s))
 unfolding setpOf setpFrom
 setp-complete c b ftz s = rw (tested-complete (bytes "setp") c b ftz (typeName s) [] (type-skips s)) (setp-at-complete c b ftz s)
@@ -152,7 +152,7 @@ unfolding slctOf slctAt slctBy slctTypeOf wholeOf nameAt seenHead
 slct-s32 t = rw (type-skips t .ftz, short-code (bytes "s32") refl, type-complete t)
 
 slct-f32 : (ftz : Bool) (t : DataType)
-    → slctOf (seenHead (bytes "slct" ∷ (when ftz (bytes "ftz") ++ typeName t ∷ bytes "f32" ∷ []))) ≡ Read.Is (Slct (SlctType.F32 ftz) (blankChoice t) noWord)
+    → slctOf (seenHead (bytes "slct" ∷ (braced ftz (bytes "ftz") ++ typeName t ∷ bytes "f32" ∷ []))) ≡ Read.Is (Slct (SlctType.F32 ftz) (blankChoice t) noWord)
 unfolding slctOf slctAt slctBy slctTypeOf wholeOf nameAt seenHead
 slct-f32 true t = rw (short-code (bytes "ftz") refl, short-code (bytes "f32") refl, type-complete t)
 slct-f32 false t = rw (type-skips t .ftz, short-code (bytes "f32") refl, type-complete t)

@@ -26,7 +26,7 @@ use Rattle.record.specs.declared.Destination.the-variants.{One}
 use Rattle.record.specs.declared.Instruction.{Instruction}
 use Rattle.record.specs.declared.Instruction.the-variants.{Arithmetic, Vset, VsetLanes, ArithmeticLanes, Set, Setp, Selp, Slct}
 use Rattle.rules.specs.Shape.{Name}
-use Rattle.rules.specs.Names.{videoTypeName, setTypeName, typeName, sixName, cmpName, boolName, op2Name, when, formOp2, combinationNames, headNames}
+use Rattle.rules.specs.Names.{videoTypeName, setTypeName, typeName, sixName, cmpName, boolName, op2Name, braced, formOp2, combinationNames, headNames}
 use Rattle.rules.specs.Grammar.{GoodName, GoodNames}
 use Rattle.rules.specs.Grammar.GoodNames.{none, more}
 use Rattle.rules.specs.Reading.{opcodes, Listed}
@@ -114,11 +114,11 @@ pub record RowIs (ns : List Name) (op : Opcode) (i : Instruction) : Type 0 where
 
 -- the names before OP2 of scalar arithmetic, and before `add` of lane arithmetic
 pub record TypedIs (ns : List Name) (t : Typed) : Type 0 where
-  pub names : drop 1 ns ≡ videoTypeName (t .dtype) ∷ videoTypeName (t .atype) ∷ videoTypeName (t .btype) ∷ (when (t .sat) (bytes "sat") ++ drop (t .next) ns)
+  pub names : drop 1 ns ≡ videoTypeName (t .dtype) ∷ videoTypeName (t .atype) ∷ videoTypeName (t .btype) ∷ (braced (t .sat) (bytes "sat") ++ drop (t .next) ns)
 
 -- the names before the types of set and setp
 pub record TestIs (ns : List Name) (t : Test) : Type 0 where
-  pub names : drop 1 ns ≡ cmpName (t .cmp) ∷ (combinationNames (t .combination) ++ when (t .ftz) (bytes "ftz") ++ drop (t .next) ns)
+  pub names : drop 1 ns ≡ cmpName (t .cmp) ∷ (combinationNames (t .combination) ++ braced (t .ftz) (bytes "ftz") ++ drop (t .next) ns)
   pub blank : blankCombination (t .combination) ≡ t .combination
 
 -- s32, or f32 after what was read of ftz
@@ -163,12 +163,12 @@ module _ (ns : List Name) (good : GoodNames ns) where
 
   -- a name that may be left out
   optional-at : (i x : ℕ) (w : Name) → codeOf w ≡ x → isShortName w ≡ true → (t : Bool) → eqb (nameAt (seenHead ns) i) x ≡ t
-      → drop i ns ≡ when t w ++ drop (past t i) ns
+      → drop i ns ≡ braced t w ++ drop (past t i) ns
   optional-at i x w e s true h = word-at i x w e s h
   optional-at i x w e s false h = refl
 
   -- {add}, at the end of the row
-  add-sound : (i : ℕ) (add : Bool) → eqb (nameAt (seenHead ns) i) addCode ≡ add → length ns ≡ past add i → drop i ns ≡ when add (bytes "add")
+  add-sound : (i : ℕ) (add : Bool) → eqb (nameAt (seenHead ns) i) addCode ≡ add → length ns ≡ past add i → drop i ns ≡ braced add (bytes "add")
   add-sound i add e h = rw (optional-at i addCode (bytes "add") (short-code (bytes "add") refl) refl add e, ended (past add i) h) (append-nil _)
 
   -- ==== scalar arithmetic, vset, and the forms with 2 and 4
@@ -274,7 +274,7 @@ module _ (ns : List Name) (good : GoodNames ns) where
   -- ==== set, setp
 
   test-sound : (c : CmpOp) (b : Combination) (i : ℕ)
-      → drop i ns ≡ when (testAt (seenHead ns) c b i .ftz) (bytes "ftz") ++ drop (testAt (seenHead ns) c b i .next) ns
+      → drop i ns ≡ braced (testAt (seenHead ns) c b i .ftz) (bytes "ftz") ++ drop (testAt (seenHead ns) c b i .next) ns
   unfolding testAt
   test-sound c b i = optional-at i ftzCode (bytes "ftz") (short-code (bytes "ftz") refl) refl (eqb (nameAt (seenHead ns) i) ftzCode) refl
 
@@ -357,7 +357,7 @@ module _ (ns : List Name) (good : GoodNames ns) where
             blank = refl;
           })
 
-  slct-row : (ftz : Bool) (k : ℕ) (t : DataType) (c : SlctType) → drop 1 ns ≡ when ftz (bytes "ftz") ++ drop k ns → drop k ns ≡ typeName t ∷ drop (k + 1) ns
+  slct-row : (ftz : Bool) (k : ℕ) (t : DataType) (c : SlctType) → drop 1 ns ≡ braced ftz (bytes "ftz") ++ drop k ns → drop k ns ≡ typeName t ∷ drop (k + 1) ns
       → SlctIs (nameAt (seenHead ns) (k + 1)) ftz c → length ns ≡ k + 2 → RowIs ns Opcode.Slct (Slct c (blankChoice t) noWord)
   slct-row ftz k t c p q (s32 h) n = record {
     names = rw (p, q, name-at (k + 1) (bytes "s32") h, ended (k + 1 + 1) (omega arith));
@@ -368,7 +368,7 @@ module _ (ns : List Name) (good : GoodNames ns) where
     blank = refl;
   }
 
-  slct-at-sound : (ftz : Bool) (k : ℕ) (i : Instruction) → drop 1 ns ≡ when ftz (bytes "ftz") ++ drop k ns → slctAt (seenHead ns) ftz k ≡ Read.Is i → RowIs ns Opcode.Slct i
+  slct-at-sound : (ftz : Bool) (k : ℕ) (i : Instruction) → drop 1 ns ≡ braced ftz (bytes "ftz") ++ drop k ns → slctAt (seenHead ns) ftz k ≡ Read.Is i → RowIs ns Opcode.Slct i
   unfolding slctAt slctBy
   slct-at-sound ftz k i p e = go (typeOf (nameAt (seenHead ns) k)) refl (slctTypeOf ftz (nameAt (seenHead ns) (k + 1))) refl e
     where

@@ -27,7 +27,7 @@ use Rattle.record.specs.declared.Destination.the-variants.{Pair}
 use Rattle.record.specs.declared.Instruction.{Instruction}
 use Rattle.record.specs.declared.Instruction.the-variants.{Setp}
 use Rattle.record.specs.declared.Record.{Record}
-use Rattle.rules.specs.Numbers.{wordSize, size, lanes, partAt, joined, lowOf, bit}
+use Rattle.rules.specs.Numbers.{wordSize, laneSize, lanes, partAt, joined, lowOf, bit}
 use Rattle.rules.specs.Execution.{replaced, maskAt, laneHolds, mergedLane, merged, count, lanesOf, halved, laneResult, sumZ, groupOf, arithmeticLanesOf, boolOf}
 use Rattle.record.specs.Registers.{Files, Place, word, double, pred, at}
 use Rattle.rules.specs.Executing.{Write, write, writes, put, putAll, after, predOf, combinedOf, testOf, done, guarded, decided, run, firstRefusal, guardHolds, sizesFit, predsFit}
@@ -46,11 +46,11 @@ part-joined n (suc k) f (suc i) p h q =
     ap (λ (x : ℕ). partAt n x i) (add-mul-div-left (f 0) (joined n k (λ j. f (suc j))) p ∙ rw (div-eq-of-lt (h 0)) (zero-add _))
     ∙ part-joined n k (λ j. f (suc j)) i p (λ j. h (suc j)) (omega arith)
 
-pub size-pos : (w : LaneWidth) → 0 < size w
+pub size-pos : (w : LaneWidth) → 0 < laneSize w
 size-pos Half = omega arith
 size-pos Byte = omega arith
 
-pub bit-lt : (w : LaneWidth) (t : Bool) → bit t < size w
+pub bit-lt : (w : LaneWidth) (t : Bool) → bit t < laneSize w
 bit-lt Half true = omega arith
 bit-lt Half false = omega arith
 bit-lt Byte true = omega arith
@@ -62,22 +62,22 @@ either-lt false x y n p q = q
 
 -- ==== lanes that are merged, once over the width and over what a masked lane gets
 
-module _ (l : Lanes) (v : ℕ → ℕ) (small : (i : ℕ) → v i < size (l .width)) (c : ℕ) where
-  pub lane-lt : (i : ℕ) → mergedLane l v c i < size (l .width)
+module _ (l : Lanes) (v : ℕ → ℕ) (small : (i : ℕ) → v i < laneSize (l .width)) (c : ℕ) where
+  pub lane-lt : (i : ℕ) → mergedLane l v c i < laneSize (l .width)
   lane-lt i =
-      either-lt (maskAt (l .mask) i) (v i) (partAt (size (l .width)) c i) (size (l .width)) (small i)
-      (part-lt (size (l .width)) c i (size-pos (l .width)))
+      either-lt (maskAt (l .mask) i) (v i) (partAt (laneSize (l .width)) c i) (laneSize (l .width)) (small i)
+      (part-lt (laneSize (l .width)) c i (size-pos (l .width)))
 
   -- each lane of what is merged is the lane of the rules
-  each-lane : (i : ℕ) → i < lanes (l .width) → partAt (size (l .width)) (merged l v c) i ≡ mergedLane l v c i
-  each-lane i h = part-joined (size (l .width)) (lanes (l .width)) (mergedLane l v c) i (size-pos (l .width)) lane-lt h
+  each-lane : (i : ℕ) → i < lanes (l .width) → partAt (laneSize (l .width)) (merged l v c) i ≡ mergedLane l v c i
+  each-lane i h = part-joined (laneSize (l .width)) (lanes (l .width)) (mergedLane l v c) i (size-pos (l .width)) lane-lt h
 
   -- a masked lane gets its value
-  pub masked-gets : (i : ℕ) → i < lanes (l .width) → maskAt (l .mask) i ≡ true → partAt (size (l .width)) (merged l v c) i ≡ v i
+  pub masked-gets : (i : ℕ) → i < lanes (l .width) → maskAt (l .mask) i ≡ true → partAt (laneSize (l .width)) (merged l v c) i ≡ v i
   masked-gets i h m = each-lane i h ∙ rw m
 
   -- a lane that the mask does not name keeps c's part
-  pub unmasked-keeps : (i : ℕ) → i < lanes (l .width) → maskAt (l .mask) i ≡ false → partAt (size (l .width)) (merged l v c) i ≡ partAt (size (l .width)) c i
+  pub unmasked-keeps : (i : ℕ) → i < lanes (l .width) → maskAt (l .mask) i ≡ false → partAt (laneSize (l .width)) (merged l v c) i ≡ partAt (laneSize (l .width)) c i
   unmasked-keeps i h m = each-lane i h ∙ rw m
 
 -- ==== vset2 and vset4, once over the width
@@ -89,13 +89,13 @@ module _ (cmp : Cmp6) (l : Lanes) (a b c : ℕ) where
 
   -- a masked lane gets 1 or 0 as its comparison holds
   pub masked-gets-bit : l .add ≡ false → (i : ℕ) → i < lanes (l .width) → maskAt (l .mask) i ≡ true
-      → partAt (size (l .width)) (lanesOf cmp l a b c) i ≡ held i
+      → partAt (laneSize (l .width)) (lanesOf cmp l a b c) i ≡ held i
   unfolding lanesOf laneHolds
   masked-gets-bit plain i h m = rw plain (masked-gets l held (λ j. bit-lt (l .width) (laneHolds cmp l a b j)) c i h m)
 
   -- a lane that the mask does not name keeps c's part
   pub unmasked-keeps-c : l .add ≡ false → (i : ℕ) → i < lanes (l .width) → maskAt (l .mask) i ≡ false
-      → partAt (size (l .width)) (lanesOf cmp l a b c) i ≡ partAt (size (l .width)) c i
+      → partAt (laneSize (l .width)) (lanesOf cmp l a b c) i ≡ partAt (laneSize (l .width)) c i
   unfolding lanesOf laneHolds
   unmasked-keeps-c plain i h m = rw plain (unmasked-keeps l held (λ j. bit-lt (l .width) (laneHolds cmp l a b j)) c i h m)
 
@@ -114,19 +114,19 @@ low-lt n (negsuc x) h = omega arith
 module _ (op : LaneArith) (dtype : VideoType) (sat : Bool) (l : Lanes) (a b c : ℕ) where
   -- the low bits of the lane's result
   abbrev low : ℕ → ℕ
-  low i = lowOf (size (l .width)) (laneResult op dtype sat l a b i)
+  low i = lowOf (laneSize (l .width)) (laneResult op dtype sat l a b i)
 
   -- a masked lane gets the low bits of its result
   pub masked-gets-low : l .add ≡ false → (i : ℕ) → i < lanes (l .width) → maskAt (l .mask) i ≡ true
-      → partAt (size (l .width)) (arithmeticLanesOf op dtype sat l a b c) i ≡ low i
+      → partAt (laneSize (l .width)) (arithmeticLanesOf op dtype sat l a b c) i ≡ low i
   unfolding arithmeticLanesOf laneResult
-  masked-gets-low plain i h m = rw plain (masked-gets l low (λ j. low-lt (size (l .width)) (laneResult op dtype sat l a b j) (size-pos (l .width))) c i h m)
+  masked-gets-low plain i h m = rw plain (masked-gets l low (λ j. low-lt (laneSize (l .width)) (laneResult op dtype sat l a b j) (size-pos (l .width))) c i h m)
 
   -- a lane that the mask does not name keeps c's part
   pub unmasked-keeps-lane : l .add ≡ false → (i : ℕ) → i < lanes (l .width) → maskAt (l .mask) i ≡ false
-      → partAt (size (l .width)) (arithmeticLanesOf op dtype sat l a b c) i ≡ partAt (size (l .width)) c i
+      → partAt (laneSize (l .width)) (arithmeticLanesOf op dtype sat l a b c) i ≡ partAt (laneSize (l .width)) c i
   unfolding arithmeticLanesOf laneResult
-  unmasked-keeps-lane plain i h m = rw plain (unmasked-keeps l low (λ j. low-lt (size (l .width)) (laneResult op dtype sat l a b j) (size-pos (l .width))) c i h m)
+  unmasked-keeps-lane plain i h m = rw plain (unmasked-keeps l low (λ j. low-lt (laneSize (l .width)) (laneResult op dtype sat l a b j) (size-pos (l .width))) c i h m)
 
   -- with `add`, d is c plus the exact results of the masked lanes, modulo 2^32
   pub add-sums : l .add ≡ true
@@ -149,8 +149,8 @@ pub group-same : (l : Lanes) (s t : ℕ → ℤ) (c : ℕ) → ((i : ℕ) → i 
 group-same l s t c h =
     ap₂ (λ (x : ℤ) (y : ℕ). cond (l .add) (lowOf wordSize (pos c +ℤ x)) y)
     (sum-same (lanes (l .width)) _ _ (λ i p. ap (λ (z : ℤ). cond (maskAt (l .mask) i) z (pos 0)) (h i p)))
-    (joined-same (size (l .width)) (lanes (l .width)) _ _
-    (λ i p. ap (λ (z : ℤ). cond (maskAt (l .mask) i) (lowOf (size (l .width)) z) (partAt (size (l .width)) c i)) (h i p)))
+    (joined-same (laneSize (l .width)) (lanes (l .width)) _ _
+    (λ i p. ap (λ (z : ℤ). cond (maskAt (l .mask) i) (lowOf (laneSize (l .width)) z) (partAt (laneSize (l .width)) c i)) (h i p)))
 
 sum-bits : (k : ℕ) (m h : ℕ → Bool) → sumZ k (λ i. cond (m i) (pos (bit (h i))) (pos 0)) ≡ pos (count k (λ i. m i && h i))
 sum-bits zero m h = refl
@@ -165,8 +165,8 @@ pub vset-group : (cmp : Cmp6) (l : Lanes) (a b c : ℕ) → lanesOf cmp l a b c 
 unfolding lanesOf
 vset-group cmp l a b c =
     ap₂ (cond (l .add)) (ap (λ (z : ℤ). lowOf wordSize (pos c +ℤ z)) (sym (sum-bits (lanes (l .width)) (maskAt (l .mask)) (laneHolds cmp l a b))))
-    (joined-same (size (l .width)) (lanes (l .width)) _ _
-    (λ i p. ap (λ (x : ℕ). cond (maskAt (l .mask) i) x (partAt (size (l .width)) c i)) (sym (mod-eq-of-lt (bit-lt (l .width) (laneHolds cmp l a b i))))))
+    (joined-same (laneSize (l .width)) (lanes (l .width)) _ _
+    (λ i p. ap (λ (x : ℕ). cond (maskAt (l .mask) i) x (partAt (laneSize (l .width)) c i)) (sym (mod-eq-of-lt (bit-lt (l .width) (laneHolds cmp l a b i))))))
 
 -- without `sat` dtype changes no bit
 pub dtype-without-sat : (op : LaneArith) (t u : VideoType) (l : Lanes) (a b c : ℕ)
@@ -187,16 +187,16 @@ halved-rounds-down (negsuc n) = go (n % 2) refl (mod-lt n (lit< tt))
 -- ==== a selector on d
 
 -- the low 8 or 16 bits replace that part of c, and the other parts stay
-module _ (w : LaneWidth) (k c v : ℕ) (small : v < size w) where
-  part-replaced : (i : ℕ) → i < lanes w → partAt (size w) (replaced w k c v) i ≡ cond (eqb i k) v (partAt (size w) c i)
+module _ (w : LaneWidth) (k c v : ℕ) (small : v < laneSize w) where
+  part-replaced : (i : ℕ) → i < lanes w → partAt (laneSize w) (replaced w k c v) i ≡ cond (eqb i k) v (partAt (laneSize w) c i)
   part-replaced i h =
-      part-joined (size w) (lanes w) (λ j. cond (eqb j k) v (partAt (size w) c j)) i (size-pos w)
-      (λ j. either-lt (eqb j k) v (partAt (size w) c j) (size w) small (part-lt (size w) c j (size-pos w))) h
+      part-joined (laneSize w) (lanes w) (λ j. cond (eqb j k) v (partAt (laneSize w) c j)) i (size-pos w)
+      (λ j. either-lt (eqb j k) v (partAt (laneSize w) c j) (laneSize w) small (part-lt (laneSize w) c j (size-pos w))) h
 
-  pub selected-part-replaced : k < lanes w → partAt (size w) (replaced w k c v) k ≡ v
+  pub selected-part-replaced : k < lanes w → partAt (laneSize w) (replaced w k c v) k ≡ v
   selected-part-replaced h = part-replaced k h ∙ rw (eq-eqb k k refl)
 
-  pub other-parts-stay : (i : ℕ) → i < lanes w → (i ≡ k → ⊥) → partAt (size w) (replaced w k c v) i ≡ partAt (size w) c i
+  pub other-parts-stay : (i : ℕ) → i < lanes w → (i ≡ k → ⊥) → partAt (laneSize w) (replaced w k c v) i ≡ partAt (laneSize w) c i
   other-parts-stay i h n = part-replaced i h ∙ rw (ne-eqb i k n)
 
 -- ==== places

@@ -51,7 +51,7 @@ use Rattle.record.specs.declared.Record.{Record}
 use Rattle.rules.specs.Numbers.{lanes, bit}
 use Rattle.record.specs.Registers.{Place, operandPlace, r, p}
 use Rattle.rules.specs.Shape.{Name, dotted, headText, numberText, registerText, OperandTree, bare, operandText, guardText}
-use Rattle.rules.specs.Names.{videoTypeName, setTypeName, typeName, sixName, cmpName, boolName, op2Name, arithName, lanesName, laneArithName, when, formOp2, combinationNames, headNames, selectorName, digitsName}
+use Rattle.rules.specs.Names.{videoTypeName, setTypeName, typeName, sixName, cmpName, boolName, op2Name, arithName, lanesName, laneArithName, braced, formOp2, combinationNames, headNames, selectorName, digitsName}
 use Rattle.laws.specs.Choices.{videoTypes, setTypes, types, sixes, cmps, boolOps, op2s, ariths, laneAriths, widths, selectors}
 use Rattle.rules.specs.Spelling.{selectedTree, formTree, formLast, sameMask, sameDigits, maskTree, digitsTree, conditionTree, combinationLast, destinationTree, lanesTrees, operandTrees}
 use Rattle.rules.specs.StandardLine.{guardPart, further, operandsText, standard}
@@ -138,9 +138,9 @@ cmp-short = short cmpName 3 cmps refl
 bool-short : (op : BoolOp) → length (boolName op) ≤ 3
 bool-short = short boolName 3 boolOps refl
 
-when-short : (t : Bool) (n : Name) → after 1 (when t n) ≤ 1 + length n
-when-short true n = omega arith
-when-short false n = omega arith
+braced-short : (t : Bool) (n : Name) → after 1 (braced t n) ≤ 1 + length n
+braced-short true n = omega arith
+braced-short false n = omega arith
 
 -- ==== registers and operands
 
@@ -232,23 +232,23 @@ lanes-short l h =
 instruction-short : (i : Instruction) → instructionInRange i ≡ true → joined 1 (headNames i) + joined 2 (map operandText (operandTrees i)) ≤ 68
 instruction-short (Arithmetic op dtype sat s) h =
     let k = simp and-eq-true-iff at h in
-    simp lengths (omega (arith, arith-short op, when-short sat (bytes "sat"), form-short, selected-short))
+    simp lengths (omega (arith, arith-short op, braced-short sat (bytes "sat"), form-short, selected-short))
 instruction-short (Vset cmp s) h = let k = simp and-eq-true-iff at h in simp lengths (omega (arith, form-short, selected-short))
-instruction-short (VsetLanes cmp l) h = simp lengths (omega (arith, when-short (l .add) (bytes "add"), lanes-short l h))
+instruction-short (VsetLanes cmp l) h = simp lengths (omega (arith, braced-short (l .add) (bytes "add"), lanes-short l h))
 instruction-short (ArithmeticLanes op dtype sat l) h =
     simp lengths
-    (omega (arith, lane-arith-short op (l .width), when-short sat (bytes "sat"), when-short (l .add) (bytes "add"), lanes-short l h))
+    (omega (arith, lane-arith-short op (l .width), braced-short sat (bytes "sat"), braced-short (l .add) (bytes "add"), lanes-short l h))
 instruction-short (Set dtype d s) h =
     let k = simp and-eq-true-iff at h in
-    simp lengths (omega (arith, cmp-short (s .cmp), when-short (s .ftz) (bytes "ftz"), number-short, operand-short, combination-short))
+    simp lengths (omega (arith, cmp-short (s .cmp), braced-short (s .ftz) (bytes "ftz"), number-short, operand-short, combination-short))
 instruction-short (Setp d s) h =
     let k = simp and-eq-true-iff at h in
-    simp lengths (omega (arith, cmp-short (s .cmp), when-short (s .ftz) (bytes "ftz"), destination-short, operand-short, combination-short))
+    simp lengths (omega (arith, cmp-short (s .cmp), braced-short (s .ftz) (bytes "ftz"), destination-short, operand-short, combination-short))
 instruction-short (Selp s c) h = let k = simp and-eq-true-iff at h in simp lengths (omega (arith, number-short, operand-short))
 instruction-short (Slct SlctType.S32 s c) h = let k = simp and-eq-true-iff at h in simp lengths (omega (arith, number-short, operand-short))
 instruction-short (Slct (SlctType.F32 ftz) s c) h =
     let k = simp and-eq-true-iff at h in
-    simp lengths (omega (arith, when-short ftz (bytes "ftz"), number-short, operand-short))
+    simp lengths (omega (arith, braced-short ftz (bytes "ftz"), number-short, operand-short))
 
 abbrev pub longestLine : ℕ
 longestLine = 77

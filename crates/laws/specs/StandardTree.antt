@@ -54,7 +54,7 @@ use Rattle.record.specs.declared.Instruction.{Instruction}
 use Rattle.record.specs.declared.Instruction.the-variants.{Arithmetic, Vset, VsetLanes, ArithmeticLanes, Set, Setp, Selp, Slct}
 use Rattle.record.specs.declared.Record.{Record}
 use Rattle.rules.specs.Shape.{Name, digit, OperandTree, bare}
-use Rattle.rules.specs.Names.{videoTypeName, setTypeName, typeName, sixName, cmpName, boolName, op2Name, arithName, lanesName, laneArithName, when, formOp2, combinationNames, headNames, selectorName, maskName, digitsName}
+use Rattle.rules.specs.Names.{videoTypeName, setTypeName, typeName, sixName, cmpName, boolName, op2Name, arithName, lanesName, laneArithName, braced, formOp2, combinationNames, headNames, selectorName, maskName, digitsName}
 use Rattle.laws.specs.Choices.{videoTypes, setTypes, types, sixes, cmps, boolOps, op2s, ariths, laneAriths, widths, selectors}
 use Rattle.rules.specs.Spelling.{selectedTree, formTree, formLast, sameMask, sameDigits, maskTree, digitsTree, conditionTree, combinationLast, destinationTree, scalarTrees, lanesTrees, sourceTrees, choiceTrees, operandTrees}
 use Rattle.rules.specs.StandardLine.{guardPart, further, standard}
@@ -212,9 +212,9 @@ pub digits-named : (w : LaneWidth) (s : Digits) → isName (digitsName w s) ≡ 
 digits-named Half s = simp digit-named
 digits-named Byte s = simp digit-named
 
-when-named : (t : Bool) (n : Name) → isName n ≡ true → every isName (when t n) ≡ true
-when-named true n h = rw h
-when-named false n h = refl
+braced-named : (t : Bool) (n : Name) → isName n ≡ true → every isName (braced t n) ≡ true
+braced-named true n h = rw h
+braced-named false n h = refl
 
 form-named : (f : Form) → every isName (formOp2 f) ≡ true
 form-named (Plain d) = refl
@@ -225,7 +225,7 @@ combination-named : (c : Combination) → every isName (combinationNames c) ≡ 
 combination-named Alone = refl
 combination-named (With op c) = simp bool-named
 
-ruleset namings = (every-append, video-named, set-named, type-named, six-named, cmp-named, arith-named, lanes-named, lane-arith-named, when-named, form-named, combination-named)
+ruleset namings = (every-append, video-named, set-named, type-named, six-named, cmp-named, arith-named, lanes-named, lane-arith-named, braced-named, form-named, combination-named)
 
 names-named : (i : Instruction) → every isName (headNames i) ≡ true
 names-named (Arithmetic op dtype sat s) = simp namings

@@ -39,7 +39,7 @@ use Rattle.record.specs.declared.SetType
 use Rattle.record.specs.declared.SetType.{SetType}
 use Rattle.record.specs.declared.SlctType
 use Rattle.record.specs.declared.SlctType.{SlctType}
-use Rattle.rules.specs.Numbers.{wordSize, doubleSize, size, lanes, partAt, joined, exactOf, isSigned, lowOf, minZ, maxZ, bit, holdsZ}
+use Rattle.rules.specs.Numbers.{wordSize, doubleSize, laneSize, lanes, partAt, joined, exactOf, isSigned, lowOf, minZ, maxZ, bit, holdsZ}
 
 -- ==== Scalar video
 
@@ -63,7 +63,7 @@ selectorPart H1 = 1
 -- a and b give the selected byte, half or word as an exact signed or unsigned number by its type
 unfoldable pub selectedOf : VideoType → Selected → ℕ → ℤ
 selectedOf t (Selected.Whole w) x = exactOf (isSigned t) wordSize x
-selectedOf t (Selected.Part w sel) x = exactOf (isSigned t) (size (selectorWidth sel)) (partAt (size (selectorWidth sel)) x (selectorPart sel))
+selectedOf t (Selected.Part w sel) x = exactOf (isSigned t) (laneSize (selectorWidth sel)) (partAt (laneSize (selectorWidth sel)) x (selectorPart sel))
 
 -- The sum, difference, absolute difference, minimum or maximum stays exact until the low 32 bits are taken, also where 002 names a narrower type
 abbrev pub arithZ : Arith → ℤ → ℤ → ℤ
@@ -85,7 +85,7 @@ highestZ false n = pos (n - 1)
 -- how many values there are at the width of d's selector, 32 bits if none
 abbrev pub formSize : Form → ℕ
 formSize (Plain d) = wordSize
-formSize (Merge d sel c) = size (selectorWidth sel)
+formSize (Merge d sel c) = laneSize (selectorWidth sel)
 formSize (Combine op d c) = wordSize
 
 -- `sat` clamps to the range of dtype at the width of d's selector
@@ -99,14 +99,14 @@ op2Z Max x y = maxZ x y
 
 -- the word c with v as its part k
 abbrev pub replaced : LaneWidth → ℕ → ℕ → ℕ → ℕ
-replaced w k c v = joined (size w) (lanes w) (λ i. cond (eqb i k) v (partAt (size w) c i))
+replaced w k c v = joined (laneSize w) (lanes w) (λ i. cond (eqb i k) v (partAt (laneSize w) c i))
 
 -- what d gets of an exact number z, with c read as signed or not
 unfoldable pub formOf : Bool → Form → ℕ → ℤ → ℕ
 -- the low 32 bits are taken
 formOf signed (Plain d) c z = lowOf wordSize z
 -- With a selector on d the low 8 or 16 bits replace that part of c
-formOf signed (Merge d sel e) c z = replaced (selectorWidth sel) (selectorPart sel) c (lowOf (size (selectorWidth sel)) z)
+formOf signed (Merge d sel e) c z = replaced (selectorWidth sel) (selectorPart sel) c (lowOf (laneSize (selectorWidth sel)) z)
 -- OP2 combines with c read by dtype (vset: unsigned)
 formOf signed (Combine op d e) c z = lowOf wordSize (op2Z op z (exactOf signed wordSize c))
 
@@ -137,12 +137,12 @@ maskAt m (suc (suc (suc i))) = m .lane3
 
 -- Part numbers count through a first, low part first, then b
 abbrev pub numbered : LaneWidth → ℕ → ℕ → ℕ → ℕ
-numbered w a b k = cond (ltb k (lanes w)) (partAt (size w) a k) (partAt (size w) b (k - lanes w))
+numbered w a b k = cond (ltb k (lanes w)) (partAt (laneSize w) a k) (partAt (laneSize w) b (k - lanes w))
 
 -- what a selector picks for lane i, as an exact number by the type on the selector's side: T(a) for a's selector and T(b) for
 -- b's, also where a digit of a's selector picks a part of b (000: extractAndSignExt_4(a, b, .asel, .atype))
 abbrev pub laneNumber : LaneWidth → VideoType → Digits → ℕ → ℕ → ℕ → ℤ
-laneNumber w t s a b i = exactOf (isSigned t) (size w) (numbered w a b (digitAt s i))
+laneNumber w t s a b i = exactOf (isSigned t) (laneSize w) (numbered w a b (digitAt s i))
 
 unfoldable pub laneHolds : Cmp6 → Lanes → ℕ → ℕ → ℕ → Bool
 laneHolds cmp l a b i =
@@ -150,10 +150,10 @@ laneHolds cmp l a b i =
 
 -- Masked lanes, those the mask names, get 1 or 0, or what T-01 gives: v; other lanes keep c's part
 abbrev pub mergedLane : Lanes → (ℕ → ℕ) → ℕ → ℕ → ℕ
-mergedLane l v c i = cond (maskAt (l .mask) i) (v i) (partAt (size (l .width)) c i)
+mergedLane l v c i = cond (maskAt (l .mask) i) (v i) (partAt (laneSize (l .width)) c i)
 
 abbrev pub merged : Lanes → (ℕ → ℕ) → ℕ → ℕ
-merged l v c = joined (size (l .width)) (lanes (l .width)) (mergedLane l v c)
+merged l v c = joined (laneSize (l .width)) (lanes (l .width)) (mergedLane l v c)
 
 -- for how many of the first k numbers f holds
 abbrev pub count : ℕ → (ℕ → Bool) → ℕ
@@ -185,7 +185,7 @@ laneArithZ LaneArith.Vavrg x y = averageZ x y
 -- `sat` clamps each lane to the lane's range under dtype
 unfoldable pub laneResult : LaneArith → VideoType → Bool → Lanes → ℕ → ℕ → ℕ → ℤ
 laneResult op dtype sat l a b i =
-    clampedOf sat (isSigned dtype) (size (l .width))
+    clampedOf sat (isSigned dtype) (laneSize (l .width))
     (laneArithZ op (laneNumber (l .width) (l .atype) (l .asel) a b i) (laneNumber (l .width) (l .btype) (l .bsel) a b i))
 
 -- the sum of the first k numbers
@@ -198,7 +198,7 @@ sumZ (suc k) f = f 0 +ℤ sumZ k (λ i. f (suc i))
 abbrev pub groupOf : Lanes → (ℕ → ℤ) → ℕ → ℕ
 groupOf l t c =
     cond (l .add) (lowOf wordSize (pos c +ℤ sumZ (lanes (l .width)) (λ i. cond (maskAt (l .mask) i) (t i) (pos 0))))
-    (merged l (λ i. lowOf (size (l .width)) (t i)) c)
+    (merged l (λ i. lowOf (laneSize (l .width)) (t i)) c)
 
 -- All twelve, over lane width and operation
 unfoldable pub arithmeticLanesOf : LaneArith → VideoType → Bool → Lanes → ℕ → ℕ → ℕ → ℕ

@@ -121,9 +121,9 @@ laneArithName op Half = laneArithStem op ++ bytes "2"
 laneArithName op Byte = laneArithStem op ++ bytes "4"
 
 -- Braces mark what may be left out
-abbrev pub when : Bool → Name → List Name
-when true n = n ∷ []
-when false n = []
+abbrev pub braced : Bool → Name → List Name
+braced true n = n ∷ []
+braced false n = []
 
 abbrev pub formOp2 : Form → List Name
 formOp2 (Plain d) = []
@@ -138,29 +138,29 @@ combinationNames (With op c) = boolName op ∷ []
 abbrev pub headNames : Instruction → List Name
 -- T(d) T(a) T(b) {sat} {OP2}
 headNames (Arithmetic op dtype sat s) =
-    arithName op ∷ videoTypeName dtype ∷ videoTypeName (s .atype) ∷ videoTypeName (s .btype) ∷ (when sat (bytes "sat") ++ formOp2 (s .form))
+    arithName op ∷ videoTypeName dtype ∷ videoTypeName (s .atype) ∷ videoTypeName (s .btype) ∷ (braced sat (bytes "sat") ++ formOp2 (s .form))
 -- T T CMP6 {OP2}
 headNames (Vset cmp s) = bytes "vset" ∷ videoTypeName (s .atype) ∷ videoTypeName (s .btype) ∷ sixName cmp ∷ formOp2 (s .form)
 -- T T CMP6 {add}
-headNames (VsetLanes cmp l) = lanesName (l .width) ∷ videoTypeName (l .atype) ∷ videoTypeName (l .btype) ∷ sixName cmp ∷ when (l .add) (bytes "add")
+headNames (VsetLanes cmp l) = lanesName (l .width) ∷ videoTypeName (l .atype) ∷ videoTypeName (l .btype) ∷ sixName cmp ∷ braced (l .add) (bytes "add")
 -- T-01: T(d) T(a) T(b) {sat} {add}. Both may stand: `add` adds the lane results, "clamped if `sat`"
 headNames (ArithmeticLanes op dtype sat l) =
     laneArithName op (l .width)
     ∷ videoTypeName dtype
     ∷ videoTypeName (l .atype)
     ∷ videoTypeName (l .btype)
-    ∷ (when sat (bytes "sat") ++ when (l .add) (bytes "add"))
+    ∷ (braced sat (bytes "sat") ++ braced (l .add) (bytes "add"))
 -- CmpOp {BoolOp} {ftz} dtype stype; dtype u32 s32 f32
 headNames (Set dtype d s) =
-    bytes "set" ∷ cmpName (s .cmp) ∷ (combinationNames (s .combination) ++ when (s .ftz) (bytes "ftz") ++ setTypeName dtype ∷ typeName (s .stype) ∷ [])
+    bytes "set" ∷ cmpName (s .cmp) ∷ (combinationNames (s .combination) ++ braced (s .ftz) (bytes "ftz") ++ setTypeName dtype ∷ typeName (s .stype) ∷ [])
 -- CmpOp {BoolOp} {ftz} stype
 headNames (Setp d s) =
-    bytes "setp" ∷ cmpName (s .cmp) ∷ (combinationNames (s .combination) ++ when (s .ftz) (bytes "ftz") ++ typeName (s .stype) ∷ [])
+    bytes "setp" ∷ cmpName (s .cmp) ∷ (combinationNames (s .combination) ++ braced (s .ftz) (bytes "ftz") ++ typeName (s .stype) ∷ [])
 -- type
 headNames (Selp s c) = bytes "selp" ∷ typeName (s .dtype) ∷ []
 -- dtype s32, or {ftz} dtype f32
 headNames (Slct SlctType.S32 s c) = bytes "slct" ∷ typeName (s .dtype) ∷ bytes "s32" ∷ []
-headNames (Slct (SlctType.F32 ftz) s c) = bytes "slct" ∷ (when ftz (bytes "ftz") ++ typeName (s .dtype) ∷ bytes "f32" ∷ [])
+headNames (Slct (SlctType.F32 ftz) s c) = bytes "slct" ∷ (braced ftz (bytes "ftz") ++ typeName (s .dtype) ∷ bytes "f32" ∷ [])
 
 -- ==== selectors and masks
 

@@ -19,9 +19,9 @@ abbrev pub doubleSize : ℕ
 doubleSize = 2 ^ 64
 
 -- how many values a lane has, and how many lanes a word: two halves or four bytes
-abbrev pub size : LaneWidth → ℕ
-size Half = 2 ^ 16
-size Byte = 2 ^ 8
+abbrev pub laneSize : LaneWidth → ℕ
+laneSize Half = 2 ^ 16
+laneSize Byte = 2 ^ 8
 
 abbrev pub lanes : LaneWidth → ℕ
 lanes Half = 2

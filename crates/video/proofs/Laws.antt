@@ -14,33 +14,33 @@ use Rattle.record.specs.declared.LaneWidth.{LaneWidth}
 use Rattle.record.specs.declared.LaneWidth.the-variants.{Half, Byte}
 use Rattle.signs.specs.Lists.{tab}
 use Rattle.base.specs.Moved.{un-low, un-high, un-up, un-down}
-use Rattle.rules.specs.Numbers.{wordSize, size, lanes, partAt, joined, exactOf, lowOf}
+use Rattle.rules.specs.Numbers.{wordSize, laneSize, lanes, partAt, joined, exactOf, lowOf}
 use Rattle.rules.specs.Execution.{replaced, mergedLane, merged, averageZ, groupOf}
 use Rattle.laws.specs.ExecutionLaws.{size-pos, either-lt, part-lt, lane-lt, low-lt, group-same}
 use Rattle.video.specs.Exact.{bias, exactly, StandFor, rejoinedOf}
 
 -- ---- parts
 
-pub part-is : (w : LaneWidth) (x i r : ℕ) → r ≡ partAt (size w) x i → (r ≡ partAt (size w) x i) × (r < size w)
-part-is w x i r e = (e, rw e (part-lt (size w) x i (size-pos w)))
+pub part-is : (w : LaneWidth) (x i r : ℕ) → r ≡ partAt (laneSize w) x i → (r ≡ partAt (laneSize w) x i) × (r < laneSize w)
+part-is w x i r e = (e, rw e (part-lt (laneSize w) x i (size-pos w)))
 
-part-zero : (w : LaneWidth) (i : ℕ) → 0 ≡ partAt (size w) 0 i
+part-zero : (w : LaneWidth) (i : ℕ) → 0 ≡ partAt (laneSize w) 0 i
 part-zero Half zero = refl
 part-zero Byte zero = refl
 part-zero Half (suc i) = part-zero Half i
 part-zero Byte (suc i) = part-zero Byte i
 
 -- a word has at most four parts
-pub part-past : (w : LaneWidth) (x i : ℕ) → x < 2 ^ 32 → 0 ≡ partAt (size w) x (suc (suc (suc (suc i))))
+pub part-past : (w : LaneWidth) (x i : ℕ) → x < 2 ^ 32 → 0 ≡ partAt (laneSize w) x (suc (suc (suc (suc i))))
 part-past Half x i h =
     let e : x / 2 ^ 16 / 2 ^ 16 / 2 ^ 16 / 2 ^ 16 ≡ 0 = omega arith in
-    part-zero Half i ∙ ap (λ (y : ℕ). partAt (size Half) y i) (sym e)
+    part-zero Half i ∙ ap (λ (y : ℕ). partAt (laneSize Half) y i) (sym e)
 part-past Byte x i h =
     let e : x / 2 ^ 8 / 2 ^ 8 / 2 ^ 8 / 2 ^ 8 ≡ 0 = omega arith in
-    part-zero Byte i ∙ ap (λ (y : ℕ). partAt (size Byte) y i) (sym e)
+    part-zero Byte i ∙ ap (λ (y : ℕ). partAt (laneSize Byte) y i) (sym e)
 
-pub chosen-part : (w : LaneWidth) (x i n : ℕ) → x < 2 ^ 32 → n ≡ size w
-    → cond (eqb i 0) x (cond (eqb i 1) (x / n) (cond (eqb i 2) (x / n / n) (cond (eqb i 3) (x / n / n / n) 0))) % n ≡ partAt (size w) x i
+pub chosen-part : (w : LaneWidth) (x i n : ℕ) → x < 2 ^ 32 → n ≡ laneSize w
+    → cond (eqb i 0) x (cond (eqb i 1) (x / n) (cond (eqb i 2) (x / n / n) (cond (eqb i 3) (x / n / n / n) 0))) % n ≡ partAt (laneSize w) x i
 chosen-part w x zero n h e = rw e
 chosen-part w x (suc zero) n h e = rw e
 chosen-part w x (suc (suc zero)) n h e = rw e
@@ -72,27 +72,27 @@ module _ (z : ℕ) where
   pub low-word : z % 2 ^ 32 ≡ lowOf wordSize (exactly z)
   low-word = low-of (2 ^ 32) (λ h. omega arith) (λ h. omega arith)
 
-  pub low-lane : (w : LaneWidth) → z % size w ≡ lowOf (size w) (exactly z)
+  pub low-lane : (w : LaneWidth) → z % laneSize w ≡ lowOf (laneSize w) (exactly z)
   low-lane Half = low-of (2 ^ 16) (λ h. omega arith) (λ h. omega arith)
   low-lane Byte = low-of (2 ^ 8) (λ h. omega arith) (λ h. omega arith)
 
 -- ---- lanes stay below the lane's size
 
 -- four lanes in an array, rejoined: nothing is cut
-rejoined : (w : LaneWidth) (f : ℕ → ℕ) → ((i : ℕ) → f i < size w) → rejoinedOf w (tab 4 f) ≡ joined (size w) (lanes w) f
+rejoined : (w : LaneWidth) (f : ℕ → ℕ) → ((i : ℕ) → f i < laneSize w) → rejoinedOf w (tab 4 f) ≡ joined (laneSize w) (lanes w) f
 unfolding rejoinedOf
 rejoined Half f h = mod-eq-of-lt (omega (arith, h 0, h 1))
 rejoined Byte f h = mod-eq-of-lt (omega (arith, h 0, h 1, h 2, h 3))
 
-pub replaced-is : (w : LaneWidth) (k c v : ℕ) → v < size w → rejoinedOf w (tab 4 (λ i. cond (eqb i k) v (partAt (size w) c i))) ≡ replaced w k c v
+pub replaced-is : (w : LaneWidth) (k c v : ℕ) → v < laneSize w → rejoinedOf w (tab 4 (λ i. cond (eqb i k) v (partAt (laneSize w) c i))) ≡ replaced w k c v
 replaced-is w k c v h =
-    rejoined w (λ i. cond (eqb i k) v (partAt (size w) c i))
-    (λ i. either-lt (eqb i k) v (partAt (size w) c i) (size w) h (part-lt (size w) c i (size-pos w)))
+    rejoined w (λ i. cond (eqb i k) v (partAt (laneSize w) c i))
+    (λ i. either-lt (eqb i k) v (partAt (laneSize w) c i) (laneSize w) h (part-lt (laneSize w) c i (size-pos w)))
 
 -- what an array of merged lanes gives
 pub merged-is : (l : Lanes) (t : ℕ → ℤ) (c : ℕ)
-    → rejoinedOf (l .width) (tab 4 (mergedLane l (λ i. lowOf (size (l .width)) (t i)) c)) ≡ merged l (λ i. lowOf (size (l .width)) (t i)) c
-merged-is l t c = rejoined (l .width) _ (lane-lt l (λ i. lowOf (size (l .width)) (t i)) (λ i. low-lt (size (l .width)) (t i) (size-pos (l .width))) c)
+    → rejoinedOf (l .width) (tab 4 (mergedLane l (λ i. lowOf (laneSize (l .width)) (t i)) c)) ≡ merged l (λ i. lowOf (laneSize (l .width)) (t i)) c
+merged-is l t c = rejoined (l .width) _ (lane-lt l (λ i. lowOf (laneSize (l .width)) (t i)) (λ i. low-lt (laneSize (l .width)) (t i) (size-pos (l .width))) c)
 
 -- ---- the group of four numbers in an array
 

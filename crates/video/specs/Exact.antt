@@ -6,7 +6,7 @@ use lib.IntN.{ℤ}
 use lib.ListN.{getD}
 use Rattle.record.specs.declared.LaneWidth.{LaneWidth}
 use Rattle.base.specs.Moved.{un}
-use Rattle.rules.specs.Numbers.{wordSize, size, lanes, joined}
+use Rattle.rules.specs.Numbers.{wordSize, laneSize, lanes, joined}
 
 -- what every number is moved up by: a multiple of 2^32, and as much as four `Wide` numbers can take away
 abbrev pub bias : ℕ
@@ -39,4 +39,4 @@ AllWide t = EachLane (λ i. Wide (getD t i 0))
 
 -- four lanes in an array, rejoined
 unfoldable pub rejoinedOf : LaneWidth → List ℕ → ℕ
-rejoinedOf w l = joined (size w) (lanes w) (λ i. getD l i 0) % wordSize
+rejoinedOf w l = joined (laneSize w) (lanes w) (λ i. getD l i 0) % wordSize

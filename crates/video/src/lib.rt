@@ -20,7 +20,7 @@ ghost use Prim.Native.Nat.{_+_, _%_, _^_, _<_, _≤_};
 ghost use lib.IntN.{pos, _+ℤ_, _-ℤ_};
 ghost use lib.ListN.{getD};
 ghost use Rattle.signs.specs.Lists.{tab};
-ghost use Rattle.rules.specs.Numbers.{wordSize, size, lanes, partAt, exactOf, isSigned, lowOf, minZ, maxZ, bit, holdsZ};
+ghost use Rattle.rules.specs.Numbers.{wordSize, laneSize, lanes, partAt, exactOf, isSigned, lowOf, minZ, maxZ, bit, holdsZ};
 ghost use Rattle.rules.specs.Execution.{selectorWidth, selectorPart, selectedOf, arithZ, lowestZ, highestZ, formSize, clampedOf, op2Z, replaced, formOf, arithmeticOf, vsetOf, maskAt, numbered, laneNumber, merged, lanesOf, averageZ, laneArithZ, sumZ, groupOf, arithmeticLanesOf};
 ghost use Rattle.video.specs.Exact.{bias, exactly, Near, Wide, StandFor, AllNear, AllWide, rejoinedOf};
 
@@ -34,7 +34,7 @@ const BYTE_SIZE: u32 = 256;
 // ---- parts of a word
 
 fn lane_size(w: LaneWidth) -> u32
-    ensures { λ r. ⌜ (r ≡ size w) × (256 ≤ r) × (r ≤ 65536) ⌝ }
+    ensures { λ r. ⌜ (r ≡ laneSize w) × (256 ≤ r) × (r ≤ 65536) ⌝ }
 {
     match w {
         LaneWidth::Half => HALF_SIZE,
@@ -53,7 +53,7 @@ fn lane_count(w: LaneWidth) -> u8
 
 // Part i of x; a word has at most four.
 fn part(w: LaneWidth, x: u32, i: u8) -> u32
-    ensures { λ r. ⌜ (r ≡ partAt (size w) x i) × (r < size w) ⌝ }
+    ensures { λ r. ⌜ (r ≡ partAt (laneSize w) x i) × (r < laneSize w) ⌝ }
 {
     let n = lane_size(w);
     let x1 = x / n;
@@ -232,7 +232,7 @@ fn low(z: u64) -> u32
 }
 
 fn low_part(w: LaneWidth, z: u64) -> u32
-    ensures { λ r. ⌜ (r ≡ lowOf (size w) (exactly z)) × (r < size w) ⌝ }
+    ensures { λ r. ⌜ (r ≡ lowOf (laneSize w) (exactly z)) × (r < laneSize w) ⌝ }
 {
     match w {
         LaneWidth::Half => (z % 65536) as u32,
@@ -291,7 +291,7 @@ fn form_size(f: Form) -> u64
 
 // The word c with v as its part k.
 fn replace(w: LaneWidth, k: u8, c: u32, v: u32) -> u32
-    requires { ⌜ v < size w ⌝ }
+    requires { ⌜ v < laneSize w ⌝ }
     ensures { λ r. ⌜ r ≡ replaced w k c v ⌝ }
 {
     let l = [
@@ -399,14 +399,14 @@ fn total(w: LaneWidth, m: Mask, t: [u64; 4]) -> u64
 }
 
 fn parts(w: LaneWidth, x: u32) -> [u32; 4]
-    ensures { λ r. ⌜ r ≡ tab 4 (partAt (size w) x) ⌝ }
+    ensures { λ r. ⌜ r ≡ tab 4 (partAt (laneSize w) x) ⌝ }
 {
     [part(w, x, 0), part(w, x, 1), part(w, x, 2), part(w, x, 3)]
 }
 
 // Masked lanes get the low bits of their results, the others keep c's part.
 fn merge(l: Lanes, t: [u64; 4], c: u32) -> u32
-    ensures { λ r. ⌜ r ≡ merged l (λ i. lowOf (size (l .width)) (exactly (getD t i 0))) c ⌝ }
+    ensures { λ r. ⌜ r ≡ merged l (λ i. lowOf (laneSize (l .width)) (exactly (getD t i 0))) c ⌝ }
 {
     let w = l.width;
     let m = l.mask;
@@ -496,7 +496,7 @@ fn results(
     y: [u64; 4],
 ) -> [u64; 4]
     requires { ⌜ AllNear x × AllNear y ⌝ }
-    ensures { λ r. ⌜ StandFor r (λ i. clampedOf sat (isSigned dtype) (size w) (laneArithZ op (exactly (getD x i 0)) (exactly (getD y i 0)))) × AllWide r ⌝ }
+    ensures { λ r. ⌜ StandFor r (λ i. clampedOf sat (isSigned dtype) (laneSize w) (laneArithZ op (exactly (getD x i 0)) (exactly (getD y i 0)))) × AllWide r ⌝ }
 {
     let sign = signed(dtype);
     let n = wide(lane_size(w));

@@ -14,7 +14,7 @@ use Rattle.record.specs.declared.Guard.the-variants.{When}
 use Rattle.record.specs.declared.VideoType.{VideoType}
 use Rattle.record.specs.Registers.{operandPlace, p}
 use Rattle.rules.specs.Shape.{Name, dotted, headText, registerText, spotText, OperandTree, inverted, pair, bare, part, operandText, guardText}
-use Rattle.rules.specs.Names.{videoTypeName, sixName, when}
+use Rattle.rules.specs.Names.{videoTypeName, sixName, braced}
 use Rattle.rules.specs.Spelling.{conditionTree}
 use Rattle.rules.specs.StandardLine.{guardPart, further}
 use Rattle.write.specs.declared.Piece.{Piece}
@@ -81,17 +81,17 @@ one-name {k} {x} {y} {w} e s = record { text = rw (e, text-more 46 refl s, appen
 pub record DotIf (t : Bool) (x y : ℕ) : Type 0 where
   pub number : y ≡ cond t (withDot x) 0
 
-pub if-name : {k x y : ℕ} {w : Name} {t : Bool} → DotIf t x y → Spells k x w → Optional y (when t w)
+pub if-name : {k x y : ℕ} {w : Name} {t : Bool} → DotIf t x y → Spells k x w → Optional y (braced t w)
 if-name {k} {x} {y} {w} {t} e s = go t (e .number)
   where
-    go : (t : Bool) → y ≡ cond t (withDot x) 0 → Optional y (when t w)
+    go : (t : Bool) → y ≡ cond t (withDot x) 0 → Optional y (braced t w)
     go true e = one-name e s
     go false e = rw e no-name
 
 -- T(d) T(a) T(b) {sat} behind the opcode x, and a last name that may be left out
 pub record ThreeTypes (x : ℕ) (dtype atype btype : VideoType) (sat : Bool) (last : ℕ) (m : List ℕ) : Type 0 where
   pub head : {k : ℕ} {w : Name} {ms : List Name} → Spells k x w → Optional last ms
-      → spelled m ≡ headText (w ∷ videoTypeName dtype ∷ videoTypeName atype ∷ videoTypeName btype ∷ (when sat (bytes "sat") ++ ms))
+      → spelled m ≡ headText (w ∷ videoTypeName dtype ∷ videoTypeName atype ∷ videoTypeName btype ∷ (braced sat (bytes "sat") ++ ms))
 
 -- T T CMP6 behind the opcode x, and a last name that may be left out
 pub record TwoTypes (x : ℕ) (atype btype : VideoType) (cmp : Cmp6) (last : ℕ) (m : List ℕ) : Type 0 where

@@ -5,7 +5,7 @@ use borrow.Fn.Kinds.{Dens, endedOf}
 use denote.Triple.Clauses.{AtExit}
 use lib.IntN.{ℤ}
 use Rattle.base.specs.Promise.{one-outcome}
-use Rattle.rules.specs.Numbers.{size, isSigned}
+use Rattle.rules.specs.Numbers.{laneSize, isSigned}
 use Rattle.rules.specs.Execution.{laneNumber, clampedOf, laneArithZ, laneResult, arithmeticLanesOf}
 use Rattle.video.proofs.Laws.{by-sides}
 use Rattle.video.proofs.arithmetic_lanes.Reads as reads
@@ -31,7 +31,7 @@ unfolding arithmeticLanesOf laneResult
 returns c =
     let a = c .before .before .before .before .args in
     rw (c .group .ensures)
-    (by-sides (a .l) (λ (x y : ℤ). clampedOf (a .sat) (isSigned (a .dtype)) (size (a .l .width)) (laneArithZ (a .op) x y))
+    (by-sides (a .l) (λ (x y : ℤ). clampedOf (a .sat) (isSigned (a .dtype)) (laneSize (a .l .width)) (laneArithZ (a .op) x y))
     (c .before .results .result) (c .before .before .before .picked .result) (c .before .before .picked2 .result)
     (laneNumber (a .l .width) (a .l .atype) (a .l .asel) (a .a) (a .b)) (laneNumber (a .l .width) (a .l .btype) (a .l .bsel) (a .a) (a .b)) (a .c)
     (c .before .before .before .picked .ensures .0) (c .before .before .picked2 .ensures .0) (c .before .results .ensures .0))
