@@ -1,13 +1,18 @@
 -- A law of every value of an enum is one computed test over the list of its values. Assumes nothing.
 use Prim.Native.Nat.{ℕ, zero, suc}
-use mathlib.Core.Path.{_≡_, subst}
-use mathlib.Core.Bool.{Bool, true, _&&_, and-eq-true-iff}
-use mathlib.Core.List.{List, [], _∷_}
+use mathlib.Core.Path.{_≡_, refl, subst}
+use mathlib.Core.Bool.{Bool, true, _&&_, and-assoc, and-eq-true-iff}
+use mathlib.Core.List.{List, [], _∷_, _++_}
 
 -- the test holds of each element
 abbrev pub every : {A : Type 0} → (A → Bool) → List A → Bool
 every q [] = true
 every q (x ∷ l) = q x && every q l
+
+-- of two lists one after the other the test holds where it holds of each
+pub every-append : {A : Type 0} (q : A → Bool) (l k : List A) → every q (l ++ k) ≡ every q l && every q k
+every-append q [] k = refl
+every-append q (x ∷ l) k = simp (every-append q l k, and-assoc)
 
 -- t stands at place i of the list
 abbrev pub StandsAt : {A : Type 0} → ℕ → List A → A → Type 0

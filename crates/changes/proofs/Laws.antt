@@ -17,7 +17,8 @@ use Rattle.rules.specs.Shape.{digit, numberText, registerText}
 use Rattle.rules.specs.Writing.{outcome}
 use Rattle.text.specs.Buffer.{Buffer, buffer, filled, Puts, whole-front}
 use Rattle.text.specs.Digits.{decimal, one-digit, more-digits, hex, hex-length}
-use Rattle.changes.specs.Changes.{lineFeed, startValue, digitsOf, valueText, changeText, changesText, registersText}
+use Rattle.signs.specs.Bytes.{lineFeed}
+use Rattle.changes.specs.Changes.{startValue, digitsOf, valueText, changeText, changesText, registersText}
 use Rattle.changes.specs.Registers.{placeOf, countOf, prefixOf, valueRoom, registersRoom, printed, printing}
 use Rattle.changes.specs.Registers as registers
 use Rattle.record.specs.declared.File.{File}

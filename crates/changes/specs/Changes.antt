@@ -4,21 +4,19 @@ use mathlib.Core.Bool.{cond}
 use mathlib.Core.List.{List, [], _∷_, _++_}
 use lib.Dec.{eqb}
 use Rattle.signs.specs.Lists.{tab}
+use Rattle.signs.specs.Bytes.{lineFeed}
 use Rattle.signs.specs.Text.{bytes}
 use Rattle.record.specs.Registers.{wordCount, doubleCount, predCount, Files, files, Place, word, double, pred, at}
 use Rattle.rules.specs.Shape.{registerText}
 use Rattle.text.specs.Digits.{hex}
 
-abbrev pub lineFeed : ℕ
-lineFeed = 10
-
--- the number that is 01010101 hex
-abbrev pub ones : ℕ
-ones = 16843009
+-- 01010101 hex
+abbrev pub wordStep : ℕ
+wordStep = 0x01010101
 
 -- At the start `%rN` is N times 01010101 hex, `%rdN` is N, predicates 0
 abbrev pub startValue : Place → ℕ
-startValue (word n) = n * ones
+startValue (word n) = n * wordStep
 startValue (double n) = n
 startValue (pred n) = 0
 

@@ -3,7 +3,7 @@ use Prim.Native.Nat.{ℕ, zero, suc, _+_, _<_, _≤_}
 use native.Mathlib.Omega.{arith}
 use native.Mathlib.Numerals.{add-one}
 use mathlib.Core.Path.{_≡_, refl, _∙_}
-use mathlib.Core.Bool.{Bool, true, false, not}
+use mathlib.Core.Bool.{Bool, Bool·beq, true, false, not, cond}
 use mathlib.Core.List.{List, [], _∷_}
 use lib.ListN.{getD, drop, length}
 use lib.Seq.{drop-cons}
@@ -17,10 +17,19 @@ use Rattle.record.specs.declared.Instruction.{Instruction}
 use Rattle.record.specs.declared.Instruction.the-variants.{Arithmetic, Vset, VsetLanes, ArithmeticLanes, Set, Setp, Selp, Slct}
 use Rattle.record.specs.declared.Record.{Record}
 use Rattle.record.specs.Registers.{Files, operandPlace}
-use Rattle.rules.specs.Executing.{kept, destinationWrites, writes, put, putAll, after, sizesFit, predsFit, guardHolds, firstRefusal, done, skipped, refused, outcome, run}
+use Rattle.rules.specs.Executing.{kept, destinationWrites, writes, put, putAll, after, sizesFit, predsFit, guardHolds, Outcome, done, skipped, refused, outcome, run}
+use Rattle.refusals.specs.Order.{firstExecuting}
 use Rattle.execute.specs.Mirror.{operandWrite, writeOf, predsWith, written}
 use Rattle.execute.specs.declared.Write
 use Rattle.execute.specs.declared.Write.{Write}
+
+-- ---- `!` inverts
+
+pub inverts : (i t : Bool) → not (Bool·beq i t) ≡ cond i (not t) t
+inverts true true = refl
+inverts true false = refl
+inverts false true = refl
+inverts false false = refl
 
 -- ---- writes
 
@@ -64,21 +73,41 @@ bits-end [] (suc i) h = refl
 bits-end (x ∷ xs) zero h = absurd (omega arith)
 bits-end (x ∷ xs) (suc i) h = bits-end xs i (omega arith)
 
--- ---- outcomes
+-- ---- outcomes: n is the number that the tests give, 0 for none
 
-module _ (r : Record) (f : Files) where
+module _ (x : Record) (f : Files) where
   abbrev first : ℕ
-  first = firstRefusal (not (isLegal r)) (not (sizesFit f)) (not (predsFit (f .preds)))
+  first = firstExecuting (not (isLegal x)) (not (sizesFit f)) (not (predsFit (f .preds)))
 
-  pub ends-refused : (n : ℕ) → n ≡ first → (n ≡ 0 → ⊥) → outcome (refused n) f ≡ run r f
-  unfolding run
-  ends-refused zero e h = absurd (h refl)
-  ends-refused (suc n) e h = rw (← e)
+  -- what the tests say of the outcome
+  by-tests : (a b c : Bool) → Outcome
+  by-tests a b c =
+      cond a (outcome (refused 8) f)
+      (cond b (outcome (refused 10) f)
+      (cond c (outcome (refused 11) f)
+      (cond (guardHolds (f .preds) (x .guard)) (outcome done (after (x .instruction) f))
+      (outcome skipped f))))
 
-  pub ends-skipped : (n : ℕ) → n ≡ first → n ≡ 0 → guardHolds (f .preds) (r .guard) ≡ false → outcome skipped f ≡ run r f
-  unfolding run
-  ends-skipped n e z g = rw (← e, z, g)
+  refused-by : (a b c : Bool) (n : ℕ) → n ≡ firstExecuting a b c → (n ≡ 0 → ⊥) → outcome (refused n) f ≡ by-tests a b c
+  refused-by true b c n e h = rw e
+  refused-by false true c n e h = rw e
+  refused-by false false true n e h = rw e
+  refused-by false false false n e h = absurd (h e)
 
-  pub ends-done : {u : Files} (n : ℕ) → n ≡ first → n ≡ 0 → guardHolds (f .preds) (r .guard) ≡ true → u ≡ after (r .instruction) f → outcome done u ≡ run r f
+  passed-by : (a b c : Bool) (n : ℕ) → n ≡ firstExecuting a b c → n ≡ 0 → by-tests false false false ≡ by-tests a b c
+  passed-by true b c n e z = absurd (omega arith)
+  passed-by false true c n e z = absurd (omega arith)
+  passed-by false false true n e z = absurd (omega arith)
+  passed-by false false false n e z = refl
+
+  pub ends-refused : (n : ℕ) → n ≡ first → (n ≡ 0 → ⊥) → outcome (refused n) f ≡ run x f
   unfolding run
-  ends-done n e z g a = rw (← e, z, g, a)
+  ends-refused n e h = refused-by (not (isLegal x)) (not (sizesFit f)) (not (predsFit (f .preds))) n e h
+
+  pub ends-skipped : (n : ℕ) → n ≡ first → n ≡ 0 → guardHolds (f .preds) (x .guard) ≡ false → outcome skipped f ≡ run x f
+  unfolding run
+  ends-skipped n e z g = rw (← passed-by (not (isLegal x)) (not (sizesFit f)) (not (predsFit (f .preds))) n e z, g)
+
+  pub ends-done : {u : Files} (n : ℕ) → n ≡ first → n ≡ 0 → guardHolds (f .preds) (x .guard) ≡ true → u ≡ after (x .instruction) f → outcome done u ≡ run x f
+  unfolding run
+  ends-done n e z g a = rw (← passed-by (not (isLegal x)) (not (sizesFit f)) (not (predsFit (f .preds))) n e z, g, a)

@@ -36,7 +36,8 @@ use Rattle.record.specs.Registers.{operandPlace, r, p}
 use Rattle.rules.specs.Shape.{OperandTree, bare, part}
 use Rattle.rules.specs.Names.{maskName, digitsName}
 use Rattle.rules.specs.Spelling.{sameMask, sameDigits, selectedTree, formTree, formLast, maskTree, digitsTree, conditionTree, combinationLast, destinationTree, lanesTrees, operandTrees}
-use Rattle.rules.specs.Reading.{OneOf, as-standard, as-written, Spelled, none, more, OperandsSpell, writtenLanes}
+use Rattle.rules.specs.Spelling.{writtenLanes}
+use Rattle.rules.specs.Reading.{OneOf, as-standard, as-written, Spelled, none, more, OperandsSpell}
 use Rattle.tree.specs.Seen.{seenOperand, seenOperands}
 use Rattle.tree.specs.Blank.{blank, blankScalar, blankLanes, blankComparison, blankChoice}
 use Rattle.kinds.specs.Registers.{bareOperand, conditionOf, destinationOf}

@@ -42,7 +42,8 @@ use Rattle.rules.specs.Names.{selectorName, maskName, digitsName}
 use Rattle.rules.specs.Grammar as grammar
 use Rattle.rules.specs.Grammar.{GoodOperand, GoodOperands}
 use Rattle.rules.specs.Spelling.{sameDigits, selectedTree, formTree, formLast, maskTree, digitsTree, conditionTree, combinationLast, destinationTree, lanesTrees}
-use Rattle.rules.specs.Reading.{OneOf, as-standard, as-written, Spelled, none, more, writtenLanes, OperandsSpell}
+use Rattle.rules.specs.Spelling.{writtenLanes}
+use Rattle.rules.specs.Reading.{OneOf, as-standard, as-written, Spelled, none, more, OperandsSpell}
 use Rattle.tree.specs.Seen.{seenOperand, seenOperands, slot, spare, operandsKept}
 use Rattle.tree.specs.Blank.{noWord, noPred, noOperand, blank, blankForm, blankScalar, blankLanes, blankCombination, blankComparison, blankChoice}
 use Rattle.tree.specs.declared.Operands.{Operands}

@@ -4,33 +4,18 @@ use native.Mathlib.Nat.{add-mul-mod-self-left, add-mul-div-left, mod-eq-of-lt, d
 use native.Mathlib.Omega.{arith}
 use mathlib.Core.Path.{_≡_, refl, sym, ap, ap₂, _∙_}
 use mathlib.Core.Bool.{Bool, true, false, not, _&&_, cond}
-use mathlib.Core.List.{List, [], _∷_}
-use lib.ListN.{getD, set, length, length-set}
-use lib.Seq.{getD-set-same, getD-set-other}
 use lib.Dec.{eqb, lit<}
-use lib.Ieee.{unlike}
 use borrow.Author.Tests.{eq-eqb, ne-eqb, lt-ltb}
-use Rattle.record.specs.Refusals.{isLegal}
 use lib.IntN.{ℤ, pos, negsuc, _+ℤ_}
 use Rattle.record.specs.declared.Cmp6.{Cmp6}
 use Rattle.record.specs.declared.LaneArith.{LaneArith}
 use Rattle.record.specs.declared.VideoType.{VideoType}
-use Rattle.record.specs.declared.Pred.{Pred}
 use Rattle.record.specs.declared.LaneWidth.{LaneWidth}
 use Rattle.record.specs.declared.LaneWidth.the-variants.{Half, Byte}
 use Rattle.record.specs.declared.Lanes.{Lanes}
-use Rattle.record.specs.declared.BoolOp.{BoolOp}
-use Rattle.record.specs.declared.Combination.{Combination}
-use Rattle.record.specs.declared.Combination.the-variants.{With}
-use Rattle.record.specs.declared.Comparison.{Comparison}
-use Rattle.record.specs.declared.Destination.the-variants.{Pair}
-use Rattle.record.specs.declared.Instruction.{Instruction}
-use Rattle.record.specs.declared.Instruction.the-variants.{Setp}
-use Rattle.record.specs.declared.Record.{Record}
 use Rattle.rules.specs.Numbers.{wordSize, laneSize, lanes, partAt, joined, lowOf, bit}
-use Rattle.rules.specs.Execution.{replaced, maskAt, laneHolds, mergedLane, merged, count, lanesOf, halved, laneResult, sumZ, groupOf, arithmeticLanesOf, boolOf}
-use Rattle.record.specs.Registers.{Files, Place, word, double, pred, at}
-use Rattle.rules.specs.Executing.{Write, write, writes, put, putAll, after, predOf, combinedOf, testOf, done, guarded, decided, run, firstRefusal, guardHolds, sizesFit, predsFit}
+use Rattle.rules.specs.Execution.{replaced, maskAt, laneHolds, mergedLane, merged, count, lanesOf, halved, laneResult, sumZ, groupOf, arithmeticLanesOf}
+use Rattle.record.specs.Registers.{word}
 
 -- ==== parts of a word, once over the number n of a part's values
 
@@ -198,111 +183,3 @@ module _ (w : LaneWidth) (k c v : ℕ) (small : v < laneSize w) where
 
   pub other-parts-stay : (i : ℕ) → i < lanes w → (i ≡ k → ⊥) → partAt (laneSize w) (replaced w k c v) i ≡ partAt (laneSize w) c i
   other-parts-stay i h n = part-replaced i h ∙ rw (ne-eqb i k n)
-
--- ==== places
-
--- the place is in its file
-abbrev pub InFile : Place → Files → Type 0
-InFile (word n) f = n < length (f .words)
-InFile (double n) f = n < length (f .doubles)
-InFile (pred n) f = n < length (f .preds)
-
--- the place is none of those written
-abbrev pub NotAmong : Place → List Write → Type 0
-NotAmong p [] = Unit {0}
-NotAmong p (w ∷ ws) = (w .place ≡ p → ⊥) × NotAmong p ws
-
-other : (xs : List ℕ) (m n v : ℕ) → (m ≡ n → ⊥) → getD (set xs m v) n 0 ≡ getD xs n 0
-other xs m n v h = getD-set-other xs m n v 0 (λ e. h (sym e))
-
-put-other : (p q : Place) (v : ℕ) (f : Files) → (q ≡ p → ⊥) → at (put q v f) p ≡ at f p
-put-other (word n) (word m) v f h = other (f .words) m n v (λ e. h (ap word e))
-put-other (word n) (double m) v f h = refl
-put-other (word n) (pred m) v f h = refl
-put-other (double n) (word m) v f h = refl
-put-other (double n) (double m) v f h = other (f .doubles) m n v (λ e. h (ap double e))
-put-other (double n) (pred m) v f h = refl
-put-other (pred n) (word m) v f h = refl
-put-other (pred n) (double m) v f h = refl
-put-other (pred n) (pred m) v f h = other (f .preds) m n v (λ e. h (ap pred e))
-
-put-all-other : (p : Place) (ws : List Write) (f : Files) → NotAmong p ws → at (putAll ws f) p ≡ at f p
-put-all-other p [] f h = refl
-put-all-other p (w ∷ ws) f h = put-all-other p ws (put (w .place) (w .value) f) (h .1) ∙ put-other p (w .place) (w .value) f (h .0)
-
--- a place that is none of the record's destinations is unmoved
-pub others-unmoved : (i : Instruction) (f : Files) (p : Place) → NotAmong p (writes i f) → at (after i f) p ≡ at f p
-unfolding after
-others-unmoved i f p h = put-all-other p (writes i f) f h
-
--- a sole destination, in its file, holds what was computed
-put-same : (p : Place) (v : ℕ) (f : Files) → InFile p f → at (put p v f) p ≡ v
-put-same (word n) v f h = getD-set-same (f .words) n v 0 h
-put-same (double n) v f h = getD-set-same (f .doubles) n v 0 h
-put-same (pred n) v f h = getD-set-same (f .preds) n v 0 h
-
-pub sole-destination : (i : Instruction) (f : Files) (p : Place) (v : ℕ) → writes i f ≡ write p v ∷ [] → InFile p f → at (after i f) p ≡ v
-unfolding after
-sole-destination i f p v e h = rw e (put-same p v f h)
-
--- no file becomes longer or shorter
-pub record SameLengths (f g : Files) : Type 0 where
-  pub words : length (g .words) ≡ length (f .words)
-  pub doubles : length (g .doubles) ≡ length (f .doubles)
-  pub preds : length (g .preds) ≡ length (f .preds)
-
-put-lengths : (p : Place) (v : ℕ) (f : Files) → SameLengths f (put p v f)
-put-lengths (word n) v f = record { words = length-set (f .words) n v; doubles = refl; preds = refl }
-put-lengths (double n) v f = record { words = refl; doubles = length-set (f .doubles) n v; preds = refl }
-put-lengths (pred n) v f = record { words = refl; doubles = refl; preds = length-set (f .preds) n v }
-
-put-all-lengths : (ws : List Write) (f : Files) → SameLengths f (putAll ws f)
-put-all-lengths [] f = record { words = refl; doubles = refl; preds = refl }
-put-all-lengths (w ∷ ws) f =
-    let h = put-lengths (w .place) (w .value) f in
-    let k = put-all-lengths ws (put (w .place) (w .value) f) in
-    record { words = k .words ∙ h .words; doubles = k .doubles ∙ h .doubles; preds = k .preds ∙ h .preds }
-
-pub lengths-kept : (i : Instruction) (f : Files) → SameLengths f (after i f)
-unfolding after
-lengths-kept i f = put-all-lengths (writes i f) f
-
--- ==== setp's two places, from the predicates before either is written
-
-module _ (p q : Pred) (s : Comparison) (f : Files) (apart : p .0 ≡ q .0 → ⊥) where
-  -- BoolOp(t, c) and BoolOp(not t, c)
-  abbrev pub first : ℕ
-  first = bit (combinedOf (f .preds) (s .combination) (testOf (f .words) (f .doubles) s))
-
-  abbrev pub second : ℕ
-  second = bit (combinedOf (f .preds) (s .combination) (not (testOf (f .words) (f .doubles) s)))
-
-  pub first-place : p .0 < length (f .preds) → at (after (Setp (Pair p q) s) f) (pred (p .0)) ≡ first
-  unfolding after writes
-  first-place h = getD-set-other (set (f .preds) (p .0) first) (q .0) (p .0) second 0 apart ∙ getD-set-same (f .preds) (p .0) first 0 h
-
-  pub second-place : q .0 < length (f .preds) → at (after (Setp (Pair p q) s) f) (pred (q .0)) ≡ second
-  unfolding after writes
-  second-place h = getD-set-same (set (f .preds) (p .0) first) (q .0) second 0 (rw length-set h)
-
--- c is read before a predicate is written: where c is the first place, the second still has BoolOp(not t, c) of c before
-pub c-read-first : (p q : Pred) (s : Comparison) (f : Files) (op : BoolOp) (inverted : Bool) → (p .0 ≡ q .0 → ⊥) → q .0 < length (f .preds)
-    → s .combination ≡ With op (record { inverted = inverted; pred = p })
-    → at (after (Setp (Pair p q) s) f) (pred (q .0)) ≡ bit (boolOf op (not (testOf (f .words) (f .doubles) s)) (unlike inverted (eqb (predOf (f .preds) p) 1)))
-unfolding combinedOf
-c-read-first p q s f op inverted apart h e =
-    second-place p q s f apart h ∙ ap (λ (w : Combination). bit (combinedOf (f .preds) w (not (testOf (f .words) (f .doubles) s)))) e
-
--- ==== skipped and refused move nothing
-
-moves-none : (n : ℕ) (r : Record) (f : Files) → (decided n r f .answer ≡ done → ⊥) → decided n r f .files ≡ f
-moves-none (suc n) r f h = refl
-moves-none zero r f h = go (guardHolds (f .preds) (r .guard)) refl
-  where
-    go : (t : Bool) → guardHolds (f .preds) (r .guard) ≡ t → guarded (guardHolds (f .preds) (r .guard)) (r .instruction) f .files ≡ f
-    go true e = absurd (h (rw e))
-    go false e = rw e
-
-pub unless-done-unmoved : (r : Record) (f : Files) → (run r f .answer ≡ done → ⊥) → run r f .files ≡ f
-unfolding run
-unless-done-unmoved r f h = moves-none (firstRefusal (not (isLegal r)) (not (sizesFit f)) (not (predsFit (f .preds)))) r f h

@@ -1,4 +1,7 @@
 pub mod ExecutionLaws
+pub mod ShapeLaws
+pub mod PlaceLaws
+pub mod RunLaws
 pub mod FloatOrder
 pub mod FloatLaws
 pub mod Choices

@@ -9,7 +9,7 @@ use lib.ListN.{length}
 use borrow.Author.Tests.{ltb-true, le-leb}
 use Rattle.signs.specs.Text.{bytes}
 use Rattle.signs.specs.Bytes.{isBlank, isNameByte, Some}
-use Rattle.base.specs.Values.{every, each}
+use Rattle.base.specs.Values.{every, each, every-append}
 use Rattle.base.specs.PackLaws.{all-of}
 use Rattle.signs.specs.Bytes
 use Rattle.record.specs.Registers.{wordInFile, predInFile, Place, word, operandPlace, r, p}
@@ -62,7 +62,8 @@ use Rattle.laws.specs.LineLengths.{standard-fits}
 use Rattle.rules.specs.Grammar
 use Rattle.rules.specs.Grammar.{GuardTree, unguarded, guarded, guardTreeText, Divided, dividedText, LineTree, lineText, GoodPlace, GoodName, GoodNames, GoodOperand, GoodGuard, GoodOperands, GoodOthers, Good}
 use Rattle.rules.specs.Reading
-use Rattle.rules.specs.Reading.{GuardSpells, writtenTrees, as-standard, Spelled, lanesNamed, Spells, Relates}
+use Rattle.rules.specs.Spelling.{writtenTrees}
+use Rattle.rules.specs.Reading.{GuardSpells, as-standard, Spelled, lanesNamed, Spells, Relates}
 
 -- ==== the tree
 
@@ -142,10 +143,6 @@ standard-text m =
     rw (← names-whole (m .instruction), ← operands-whole (m .instruction)) (simp (guard-text, others-text, append-nil, append-assoc))
 
 -- ==== names
-
-every-append : {A : Type 0} (q : A → Bool) (l k : List A) → every q (l ++ k) ≡ every q l && every q k
-every-append q [] k = refl
-every-append q (x ∷ l) k = simp (every-append q l k, and-assoc)
 
 abbrev isName : Name → Bool
 isName [] = false

@@ -28,11 +28,13 @@ use Rattle.rules.specs.Grammar.GoodNames.{more as name-more}
 use Rattle.rules.specs.Grammar.GoodOthers.{none as no-other, more as other-more}
 use Rattle.rules.specs.Grammar.GoodOperands.{none as no-operand, more as operand-more}
 use Rattle.rules.specs.Grammar.{LineTree, GuardTree, unguarded, guarded, Divided, namesOf, operandsOf, GoodOthers, GoodOperands, Shaped}
-use Rattle.rules.specs.Reading.{GuardSpells, Spells, Relates, lineLimit, opcodes, Listed, Row, Fits, Refuses, over-160, no-shape, no-opcode, no-row, no-fit, out-of-file, same-pair, Answer, read, refused, Answers, accepts, refuses}
+use Rattle.rules.specs.Reading.{GuardSpells, Spells, Relates, lineLimit, opcodes, Listed, Row, Fits, Answer, read, refused}
+use Rattle.read.specs.Refuses.{Refuses, over-160, no-shape, no-opcode, no-row, no-fit, out-of-file, same-pair, Decides, decides-read, decides-refused}
 use Rattle.tree.specs.Seen.{seen, seenGuard, seenHead, seenOperands}
 use Rattle.tree.specs.Blank.{blank, blankForm, blankCombination}
 use Rattle.tree.specs.declared.Guarding.{Guarding}
 use Rattle.tree.specs.declared.Parts.{Parts}
+use Rattle.laws.specs.PlaceLaws.{legal-parts}
 use Rattle.shape.specs.Line.{shapeOf}
 use Rattle.shape.specs.Complete.{shape-complete}
 use Rattle.shape.specs.Sound.{shape-sound}
@@ -46,7 +48,7 @@ use Rattle.fills.specs.FillComplete.{fill-complete}
 use Rattle.fills.specs.FillSound.{fill-sound}
 use Rattle.fills.specs.declared.Filled
 use Rattle.fills.specs.declared.Filled.{Filled}
-use Rattle.refusals.specs.Order.{firstRefusal}
+use Rattle.refusals.specs.Order.{firstReading}
 use Rattle.read.specs.Mirror.{guardGood, guardIn, instructionIn, fullIs, filledIn, recordOf, candidateBy, candidateOf, fitBy, numberOf, decided, decidedBy, readOf}
 
 -- ==== what stands between the rooms
@@ -163,17 +165,17 @@ module _ (l : List ℕ) (short : length l ≤ lineLimit) (t : LineTree) (shaped 
   -- ---- each stage gives the answer that the grammar gives
 
   -- the line spells m, which fits
-  fits-answers : (m : Record) → Fits t m → Answers l (decidedBy false true (record { spelled = m; opcode = true; row = true; fit = true }))
+  fits-answers : (m : Record) → Fits t m → Decides l (decidedBy false true (record { spelled = m; opcode = true; row = true; fit = true }))
   fits-answers m f = go (numbersInRange m) refl (pairApart m) refl
     where
-      go : (x : Bool) → numbersInRange m ≡ x → (y : Bool) → pairApart m ≡ y → Answers l (decided (firstRefusal false false false false false (not x) (not y)) m)
-      go false e y q = refuses (out-of-file short t shaped m f e)
-      go true e false q = refuses (same-pair short t shaped m f e q)
-      go true e true q = accepts m (record { short = short; tree = t; shaped = shaped; spells = f .spells }) (all-legal m (f .modifiers) (f .operands) e q)
+      go : (x : Bool) → numbersInRange m ≡ x → (y : Bool) → pairApart m ≡ y → Decides l (decided (firstReading false false false false false (not x) (not y)) m)
+      go false e y q = decides-refused (out-of-file short t shaped m f e)
+      go true e false q = decides-refused (same-pair short t shaped m f e q)
+      go true e true q = decides-read m (record { short = short; tree = t; shaped = shaped; spells = f .spells }) (all-legal m (f .modifiers) (f .operands) e q)
 
   -- the row fits; the operands are j's, or wrong
   operands-answer : (i : Instruction) → found ≡ Found.Row i → instructionModifiersFit i ≡ true → (x : Filled) → filledBy (Found.Row i) ≡ x
-      → Answers l (decidedBy false true (record {
+      → Decides l (decidedBy false true (record {
         spelled = recordOf (guardIn (seenGuard (t .guard))) (filledIn x);
         opcode = true;
         row = true;
@@ -199,25 +201,25 @@ module _ (l : List ℕ) (short : length l ≤ lineLimit) (t : LineTree) (shaped 
       none-guarded w m h = off (guard-found (t .guard) (m .guard) (h .spells .guard) .0) w
 
       go : (x : Filled) → filledBy (Found.Row i) ≡ x → (b : Bool) → guardGood g ≡ b
-          → Answers l (decidedBy false true (record { spelled = recordOf (guardIn g) (filledIn x); opcode = true; row = true; fit = b && fullIs x && operandsFit (recordOf (guardIn g) (filledIn x)) }))
-      go x q false b = refuses (no-fit short t shaped i row (none-guarded b))
-      go (Filled.Wrong k) q true b = refuses (no-fit short t shaped i row (none-full k q))
+          → Decides l (decidedBy false true (record { spelled = recordOf (guardIn g) (filledIn x); opcode = true; row = true; fit = b && fullIs x && operandsFit (recordOf (guardIn g) (filledIn x)) }))
+      go x q false b = decides-refused (no-fit short t shaped i row (none-guarded b))
+      go (Filled.Wrong k) q true b = decides-refused (no-fit short t shaped i row (none-full k q))
       go (Filled.Full j) q true b = fit (operandsFit (recordOf (guardIn g) j)) refl
         where
           s : Spells t (recordOf (guardIn g) j) × (blank j ≡ i)
           s = found-spells i j e q b
 
           fit : (c : Bool) → operandsFit (recordOf (guardIn g) j) ≡ c
-              → Answers l (decidedBy false true (record { spelled = recordOf (guardIn g) j; opcode = true; row = true; fit = c }))
+              → Decides l (decidedBy false true (record { spelled = recordOf (guardIn g) j; opcode = true; row = true; fit = c }))
           fit true c = fits-answers (recordOf (guardIn g) j) (record { spells = s .0; modifiers = sym (fit-blank j) ∙ ap instructionModifiersFit (s .1) ∙ f; operands = c })
           fit false c =
-              refuses
+              decides-refused
               (no-fit short t shaped i row λ m h. off (h .operands) (ap operandsFit (seen-one t t refl m (recordOf (guardIn g) j) (h .spells) (s .0)) ∙ c))
 
-  found-answers : (f : Found) → found ≡ f → Answers l (said f (filledBy f))
-  found-answers Found.NoOpcode e = refuses (no-opcode short t shaped (no-opcode-known (t .opcode) (t .modifiers) (shaped .good .opcode) e))
+  found-answers : (f : Found) → found ≡ f → Decides l (said f (filledBy f))
+  found-answers Found.NoOpcode e = decides-refused (no-opcode short t shaped (no-opcode-known (t .opcode) (t .modifiers) (shaped .good .opcode) e))
   found-answers (Found.Wrong k) e =
-      refuses (no-row short t shaped (wrong-known (t .opcode) (t .modifiers) k (shaped .good .opcode) e) λ i r. wrong-no-row (namesOf t) k e i (r .names))
+      decides-refused (no-row short t shaped (wrong-known (t .opcode) (t .modifiers) k (shaped .good .opcode) e) λ i r. wrong-no-row (namesOf t) k e i (r .names))
   found-answers (Found.Row i) e = fit (instructionModifiersFit i) refl
     where
       r : (namesOf t ≡ headNames i) × (blank i ≡ i)
@@ -229,43 +231,36 @@ module _ (l : List ℕ) (short : length l ≤ lineLimit) (t : LineTree) (shaped 
           let z = same-row j i (sym (q .names) ∙ r .0) in
           off (q .fit) (sym (fit-blank j) ∙ ap instructionModifiersFit z ∙ fit-blank i ∙ w)
 
-      fit : (b : Bool) → instructionModifiersFit i ≡ b → Answers l (decidedBy false true (record {
+      fit : (b : Bool) → instructionModifiersFit i ≡ b → Decides l (decidedBy false true (record {
         spelled = recordOf (guardIn (seenGuard (t .guard))) (filledIn (filledBy (Found.Row i)));
         opcode = true;
         row = b;
         fit = guardGood (seenGuard (t .guard)) && fullIs (filledBy (Found.Row i)) && operandsFit (recordOf (guardIn (seenGuard (t .guard))) (filledIn (filledBy (Found.Row i))));
       }))
       fit true w = operands-answer i e w (filledBy (Found.Row i)) refl
-      fit false w = refuses (no-row short t shaped (row-listed i (t .opcode) (t .modifiers) (r .0)) (unfit w))
+      fit false w = decides-refused (no-row short t shaped (row-listed i (t .opcode) (t .modifiers) (r .0)) (unfit w))
 
-  pub shaped-answers : Answers l (readOf l)
-  shaped-answers = subst (Answers l) (sym is-said) (found-answers found refl)
+  pub shaped-answers : Decides l (readOf l)
+  shaped-answers = subst (Decides l) (sym is-said) (found-answers found refl)
 
 -- ==== every line
 
 -- every line gets the answer that the grammar gives it
-pub answers : (l : List ℕ) → Answers l (readOf l)
+pub decides : (l : List ℕ) → Decides l (readOf l)
 unfolding readOf
-answers l = go (ltb lineLimit (length l)) refl
+decides l = go (ltb lineLimit (length l)) refl
   where
-    shapes : length l ≤ lineLimit → (b : Bool) → shapeOf l .good ≡ b → Answers l (decidedBy false b (candidateOf (shapeOf l .parts)))
+    shapes : length l ≤ lineLimit → (b : Bool) → shapeOf l .good ≡ b → Decides l (decidedBy false b (candidateOf (shapeOf l .parts)))
     shapes h true e =
         let s = shape-sound l h e in
-        subst (Answers l) (rw (le-ltb lineLimit (length l) h, e)) (shaped-answers l h (s .tree) (s .shaped))
-    shapes h false e = refuses (no-shape h λ t s. off (is-good l h t s .0) e)
+        subst (Decides l) (rw (le-ltb lineLimit (length l) h, e)) (shaped-answers l h (s .tree) (s .shaped))
+    shapes h false e = decides-refused (no-shape h λ t s. off (is-good l h t s .0) e)
 
-    go : (b : Bool) → ltb lineLimit (length l) ≡ b → Answers l (decidedBy b (shapeOf l .good) (candidateOf (shapeOf l .parts)))
-    go true e = refuses (over-160 (ltb-true lineLimit (length l) e))
+    go : (b : Bool) → ltb lineLimit (length l) ≡ b → Decides l (decidedBy b (shapeOf l .good) (candidateOf (shapeOf l .parts)))
+    go true e = decides-refused (over-160 (ltb-true lineLimit (length l) e))
     go false e = shapes (ltb-false lineLimit (length l) e) (shapeOf l .good) refl
 
 -- ==== and no other
-
-legal-parts : (m : Record) → Legal m → (modifiersFit m ≡ true) × (operandsFit m ≡ true) × (numbersInRange m ≡ true) × (pairApart m ≡ true)
-unfolding isLegal
-legal-parts m h = go (modifiersFit m) (operandsFit m) (numbersInRange m) (pairApart m) h
-  where
-    go : (a b c d : Bool) → a && b && c && d ≡ true → (a ≡ true) × (b ≡ true) × (c ≡ true) × (d ≡ true)
-    go a b c d h = let k = simp and-eq-true-iff at h in (k .0 .0 .0, k .0 .0 .1, k .0 .1, k .1)
 
 module _ (l : List ℕ) (short : length l ≤ lineLimit) (t : LineTree) (shaped : Shaped l t) where
   found-only : (a : Answer) → ((f : Found) → found l short t shaped ≡ f → said l short t shaped f (filledBy l short t shaped f) ≡ a) → readOf l ≡ a
@@ -353,19 +348,31 @@ related-only l m r h =
     let k = legal-parts m h in
     fits-only l (r .short) (r .tree) (r .shaped) m (record { spells = r .spells; modifiers = k .0; operands = k .1 }) ∙ rw (k .2, k .3)
 
-pub only : (l : List ℕ) (a : Answer) → Answers l a → readOf l ≡ a
-only l a (accepts m r h) = related-only l m r h
-only l a (refuses {n} r) = refusal-only l n r
+pub only : (l : List ℕ) (a : Answer) → Decides l a → readOf l ≡ a
+only l a (decides-read m r h) = related-only l m r h
+only l a (decides-refused {n} r) = refusal-only l n r
 
--- no line gets two answers
-pub answers-unique : (l : List ℕ) (a b : Answer) → Answers l a → Answers l b → a ≡ b
-answers-unique l a b x y = sym (only l a x) ∙ only l b y
+-- no line gets two decides
+pub decides-unique : (l : List ℕ) (a b : Answer) → Decides l a → Decides l b → a ≡ b
+decides-unique l a b x y = sym (only l a x) ∙ only l b y
 
 -- no line is related to two records
 pub one-record : (l : List ℕ) (m n : Record) → Relates l m → Relates l n → m ≡ n
 one-record l m n r q =
     let e : seen (r .tree) ≡ seen (q .tree) = sym (is-good l (r .short) (r .tree) (r .shaped) .1) ∙ is-good l (q .short) (q .tree) (q .shaped) .1 in
     seen-one (r .tree) (q .tree) e m n (r .spells) (q .spells)
+
+-- what one tree of a line spells, each of its trees spells
+pub spelled-by-all : (l : List ℕ) → length l ≤ lineLimit → (t u : LineTree) → Shaped l t → Shaped l u → (m : Record) → Spells t m → Spells u m
+spelled-by-all l h t u s v m k =
+    let e : seen t ≡ seen u = sym (is-good l h t s .1) ∙ is-good l h u v .1 in
+    let f = spelled-found t m k in
+    let g = guard-found (t .guard) (m .guard) (k .guard) in
+    let row : found l h u v ≡ Found.Row (blank (m .instruction)) = ap (λ (x : Parts). rowOf (x .head)) (sym e) ∙ f .0 in
+    let full : filledOf (blank (m .instruction)) (seenOperands (operandsOf u)) ≡ Filled.Full (m .instruction) = ap (λ (x : Parts). filledOf (blank (m .instruction)) (x .operands)) (sym e) ∙ f .1 in
+    let good : guardGood (seenGuard (u .guard)) ≡ true = ap (λ (x : Parts). guardGood (x .guard)) (sym e) ∙ g .0 in
+    let same : guardIn (seenGuard (u .guard)) ≡ m .guard = ap (λ (x : Parts). guardIn (x .guard)) (sym e) ∙ g .1 in
+    subst (λ (w : Guard). Spells u (recordOf w (m .instruction))) same (found-spells l h u v (blank (m .instruction)) (m .instruction) row full good .0)
 
 -- ==== as the code decides, stage by stage
 
@@ -385,18 +392,3 @@ ends-refused good m (suc n) e h = rw (← e)
 
 pub ends-read : (good : Bool) (m : Record) (n : ℕ) → n ≡ numberOf false true (fitBy good m) → n ≡ 0 → read m ≡ decidedBy false true (fitBy good m)
 ends-read good m n e z = rw (← e, z)
-
--- without the shape the later stages do not count
-pub ends-unshaped : (l : List ℕ) → length l ≤ lineLimit → shapeOf l .good ≡ false → Answers l (refused 2)
-unfolding readOf
-ends-unshaped l h e = subst (Answers l) is (answers l)
-  where
-    is : readOf l ≡ refused 2
-    is = rw (le-ltb lineLimit (length l) h, e)
-
-pub ends-shaped : (l : List ℕ) (a : Answer) → length l ≤ lineLimit → shapeOf l .good ≡ true → a ≡ decidedBy false true (candidateOf (shapeOf l .parts)) → Answers l a
-unfolding readOf
-ends-shaped l a h e d = subst (Answers l) (is ∙ sym d) (answers l)
-  where
-    is : readOf l ≡ decidedBy false true (candidateOf (shapeOf l .parts))
-    is = rw (le-ltb lineLimit (length l) h, e)

@@ -28,7 +28,7 @@ use Rattle.heads.specs.declared.Found.{Found}
 use Rattle.fills.specs.Fills.{filledOf}
 use Rattle.fills.specs.declared.Filled
 use Rattle.fills.specs.declared.Filled.{Filled}
-use Rattle.refusals.specs.Order.{firstRefusal}
+use Rattle.refusals.specs.Order.{firstReading}
 
 -- ==== what the head gave
 
@@ -113,7 +113,7 @@ fitBy good m = record { spelled = m; opcode = true; row = true; fit = good && op
 
 abbrev pub numberOf : Bool → Bool → Candidate → ℕ
 numberOf tooLong good c =
-    firstRefusal tooLong (not good) (not (c .opcode)) (not (c .row)) (not (c .fit)) (not (numbersInRange (c .spelled))) (not (pairApart (c .spelled)))
+    firstReading tooLong (not good) (not (c .opcode)) (not (c .row)) (not (c .fit)) (not (numbersInRange (c .spelled))) (not (pairApart (c .spelled)))
 
 abbrev pub decided : ℕ → Record → Answer
 decided zero m = read m

@@ -7,8 +7,8 @@ use Rattle.record.specs.Refusals.{Legal}
 use Rattle.record.specs.declared.Record.{Record}
 use Rattle.rules.specs.StandardLine.{standard}
 use Rattle.laws.specs.StandardTree.{standard-relates}
-use Rattle.rules.specs.Reading.{Relates, Refuses, Answer, read, refused, Answers, accepts, refuses}
-use Rattle.read.specs.Laws.{answers, answers-unique}
+use Rattle.rules.specs.Reading.{Relates, Answer, read, refused, Answers, accepts, refuses}
+use Rattle.read.specs.Answering.{answers, answers-unique}
 use Rattle.read.specs.Mirror.{readOf}
 
 -- a line is accepted exactly when the grammar relates it to a legal record
@@ -17,13 +17,6 @@ accepted-related l m (accepts n r h) = (r, h)
 
 pub related-accepted : (l : List ℕ) (m : Record) → Relates l m → Legal m → Answers l (read m)
 related-accepted l m r h = accepts m r h
-
--- a line that is not accepted gets the first refusal that applies
-pub refused-refuses : (l : List ℕ) (n : ℕ) → Answers l (refused n) → Refuses l n
-refused-refuses l n (refuses r) = r
-
-pub refuses-refused : (l : List ℕ) (n : ℕ) → Refuses l n → Answers l (refused n)
-refuses-refused l n r = refuses r
 
 -- a line that is refused is related to no legal record, and one that is related to none is refused
 pub refused-unrelated : (l : List ℕ) (n : ℕ) (m : Record) → Answers l (refused n) → Relates l m → Legal m → ⊥

@@ -1,9 +1,11 @@
--- Reading: 1 to 7, each looked at only when the earlier ones don't apply; 0 where none applies
+-- The code's own form of document 01's order: a test for each refusal, and the number of the first that holds, 0 where none does. No one has
+-- to believe it: the proofs of `read` and `execute` join it to `Answers` and `run`.
 use Prim.Native.Nat.{ℕ}
 use mathlib.Core.Bool.{Bool, cond}
 
-abbrev pub firstRefusal : Bool → Bool → Bool → Bool → Bool → Bool → Bool → ℕ
-firstRefusal tooLong noShape noOpcode noRow noFit outOfFile samePair =
+-- Reading: 1 to 7
+abbrev pub firstReading : Bool → Bool → Bool → Bool → Bool → Bool → Bool → ℕ
+firstReading tooLong noShape noOpcode noRow noFit outOfFile samePair =
     cond tooLong 1
     (cond noShape 2
     (cond noOpcode 3
@@ -12,3 +14,7 @@ firstRefusal tooLong noShape noOpcode noRow noFit outOfFile samePair =
     (cond outOfFile 6
     (cond samePair 7
     0))))))
+
+-- Executing: 8, 10, 11
+abbrev pub firstExecuting : Bool → Bool → Bool → ℕ
+firstExecuting illegal wrongSizes wrongPreds = cond illegal 8 (cond wrongSizes 10 (cond wrongPreds 11 0))

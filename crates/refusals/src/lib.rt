@@ -1,7 +1,6 @@
 // Which refusal comes first, in document 01's order: each is looked at only when the earlier ones don't apply.
 ghost use mathlib.Core.Path.{_≡_};
-ghost use Rattle.rules.specs.Executing as rules;
-ghost use Rattle.refusals.specs.Order.{firstRefusal};
+ghost use Rattle.refusals.specs.Order.{firstReading, firstExecuting};
 
 // No refusal applies.
 const NONE: u8 = 0;
@@ -38,7 +37,7 @@ pub fn reading(
     out_of_file: bool,
     same_pair: bool,
 ) -> u8
-    ensures { λ r. ⌜ r ≡ firstRefusal «too_long» «no_shape» «no_opcode» «no_row» «no_fit» «out_of_file» «same_pair» ⌝ }
+    ensures { λ r. ⌜ r ≡ firstReading «too_long» «no_shape» «no_opcode» «no_row» «no_fit» «out_of_file» «same_pair» ⌝ }
 {
     if too_long {
         return TOO_LONG;
@@ -66,7 +65,7 @@ pub fn reading(
 
 // The first refusal of executing that applies, 0 where none does.
 pub fn executing(illegal: bool, wrong_sizes: bool, wrong_preds: bool) -> u8
-    ensures { λ r. ⌜ r ≡ rules.firstRefusal illegal «wrong_sizes» «wrong_preds» ⌝ }
+    ensures { λ r. ⌜ r ≡ firstExecuting illegal «wrong_sizes» «wrong_preds» ⌝ }
 {
     if illegal {
         return NOT_LEGAL;

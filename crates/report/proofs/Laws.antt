@@ -16,7 +16,7 @@ use Rattle.rules.specs.Writing.{Answer, Outcome, written, refused, outcome, wri
 use Rattle.text.specs.Buffer.{Buffer, buffer, Puts, _then_}
 use Rattle.text.specs.Digits.{decimal}
 use Rattle.report.specs.Listing.{lineText}
-use Rattle.changes.specs.Changes.{lineFeed}
+use Rattle.signs.specs.Bytes.{lineFeed}
 use Rattle.report.specs.Chunks.{PutsAnswer, PutsTurn}
 
 -- ==== the standard line, written to 160 bytes

@@ -20,7 +20,7 @@ use Rattle.rules.specs.Reading.{Answer, Answers, accepts, read, refused}
 use Rattle.text.specs.Buffer.{buffer, Puts, _then_, whole-front}
 use Rattle.text.specs.Digits.{decimal-short}
 use Rattle.report.specs.Listing.{executedText, answerText, lineText, Turn, listingLimit, tooLongText}
-use Rattle.changes.specs.Changes.{lineFeed}
+use Rattle.signs.specs.Bytes.{lineFeed}
 use Rattle.report.specs.Chunks.{lineLength, lineAt, behind, nextPlace, nextNumber, lineRoom, PutsTurn, Some, ended, no-room, too-long, one-more, Prints}
 
 -- ==== where a line ends

@@ -12,7 +12,7 @@ use Rattle.rules.specs.Reading.{Answer, Answers}
 use Rattle.text.specs.Buffer.{Buffer, Puts}
 use Rattle.text.specs.Digits.{mostDigits}
 use Rattle.report.specs.Listing.{answerText, filesAfter, Turn, listingLimit, tooLongText}
-use Rattle.changes.specs.Changes.{lineFeed}
+use Rattle.signs.specs.Bytes.{lineFeed}
 
 -- how many bytes stand before the first line feed, or all
 unfoldable pub lineLength : List ℕ → ℕ

@@ -13,7 +13,8 @@ use Rattle.rules.specs.Executing as executing
 use Rattle.rules.specs.StandardLine.{standard}
 use Rattle.rules.specs.Reading.{Answer, read, refused, Answers}
 use Rattle.text.specs.Digits.{decimal}
-use Rattle.changes.specs.Changes.{lineFeed, startFiles, registersText}
+use Rattle.signs.specs.Bytes.{lineFeed}
+use Rattle.changes.specs.Changes.{startFiles, registersText}
 
 -- The listing program reads standard input, at most 65,536 bytes
 abbrev pub listingLimit : ℕ

@@ -17,7 +17,8 @@ use Rattle.read.specs.Mirror.{readOf}
 use Rattle.read.specs.Laws.{answers, answers-unique}
 use Rattle.report.specs.declared.Progress.{Progress}
 use Rattle.report.specs.Listing.{linesWith, linesOf, lineText, filesAfter, Turn, Turns, none, more, listingLimit, tooLongText, Output, too-long, printed}
-use Rattle.changes.specs.Changes.{lineFeed, startFiles, changeText, changesText, registersText}
+use Rattle.signs.specs.Bytes.{lineFeed}
+use Rattle.changes.specs.Changes.{startFiles, changeText, changesText, registersText}
 use Rattle.report.specs.Chunks.{lineLength, lineAt, behind, nextPlace, nextNumber, lineRoom, Some, ended, no-room, one-more, Prints, Calls}
 use Rattle.report.specs.Chunks as chunks
 use Rattle.report.specs.ChunkLaws.{further-on}

@@ -1,11 +1,11 @@
--- Document 01, "Registers" and "Refusal numbers" for executing: the lent files, what a record reads and writes, refusals 8, 10, 11, done and
--- skipped. Of the bullets on execution those on places and on `!` stand here.
-use Prim.Native.Nat.{ℕ, zero, suc, _%_}
+-- Document 01, "Refusal numbers" for executing: what a record reads and writes, refusals 8, 10, 11, done and skipped. Of the bullets on
+-- execution those on places and on `!` stand here.
+use Prim.Native.Nat.{ℕ, _%_}
+use mathlib.Core.Path.{_≡_}
 use mathlib.Core.Bool.{Bool, true, false, not, _&&_, cond}
 use mathlib.Core.List.{List, [], _∷_}
 use lib.ListN.{getD, set, length}
 use lib.Dec.{leb, eqb}
-use lib.Ieee.{unlike}
 use Rattle.record.specs.Registers.{Files, files, Place, word, double, pred, r, p, operandPlace, wordCount, doubleCount, predCount}
 use Rattle.record.specs.Refusals.{isLegal}
 use Rattle.record.specs.declared.Word.{Word}
@@ -19,6 +19,7 @@ use Rattle.record.specs.declared.Selected.{Selected}
 use Rattle.record.specs.declared.Selected.the-variants.{Whole, Part}
 use Rattle.record.specs.declared.Form.{Form}
 use Rattle.record.specs.declared.Form.the-variants.{Plain, Merge, Combine}
+use Rattle.record.specs.declared.Scalar.{Scalar}
 use Rattle.record.specs.declared.Operand
 use Rattle.record.specs.declared.Operand.{Operand}
 use Rattle.record.specs.declared.Comparison.{Comparison}
@@ -29,10 +30,6 @@ use Rattle.record.specs.declared.Instruction.the-variants.{Arithmetic, Vset, Vs
 use Rattle.record.specs.declared.Record.{Record}
 use Rattle.rules.specs.Numbers.{bit, wordSize}
 use Rattle.rules.specs.Execution.{arithmeticOf, vsetOf, lanesOf, arithmeticLanesOf, comparisonOf, boolOf, setOf, selpOf, slctOf}
-
-pub record Write : Type 0 where
-  pub place : Place
-  pub value : ℕ
 
 -- ==== what is read, each from the file that it stands in
 
@@ -56,9 +53,12 @@ formC words (Plain d) = 0
 formC words (Merge d sel c) = wordOf words c
 formC words (Combine op d c) = wordOf words c
 
--- In both, `!` inverts c; so it does in a guard
+-- a predicate is true where it is 1. In both, `!` inverts c; so it does in a guard
+abbrev pub predHolds : List ℕ → Pred → Bool
+predHolds preds q = eqb (predOf preds q) 1
+
 abbrev pub conditionHolds : List ℕ → Condition → Bool
-conditionHolds preds c = unlike (c .inverted) (eqb (predOf preds (c .pred)) 1)
+conditionHolds preds c = cond (c .inverted) (not (predHolds preds (c .pred))) (predHolds preds (c .pred))
 
 -- BoolOp(t, c), t alone without BoolOp
 unfoldable pub combinedOf : List ℕ → Combination → Bool → Bool
@@ -69,15 +69,70 @@ combinedOf preds (With op c) t = boolOf op t (conditionHolds preds c)
 unfoldable pub testOf : List ℕ → List ℕ → Comparison → Bool
 testOf words doubles s = comparisonOf (s .cmp) (s .ftz) (s .stype) (operandOf words doubles (s .a)) (operandOf words doubles (s .b))
 
--- ==== what is written, in operand order
-
-abbrev pub write : Place → ℕ → Write
-write p v = record { place = p; value = v }
+-- ==== which places a record names, from the record alone
 
 abbrev pub formD : Form → Word
 formD (Plain d) = d
 formD (Merge d sel c) = d
 formD (Combine op d c) = d
+
+-- one predicate, or a pair of which one may be `_`
+abbrev pub destinationPlaces : Destination → List Place
+destinationPlaces (One a) = p a ∷ []
+destinationPlaces (Pair a b) = p a ∷ p b ∷ []
+destinationPlaces (First a) = p a ∷ []
+destinationPlaces (Second b) = p b ∷ []
+
+-- what an instruction writes: d, in setp its places in their order
+abbrev pub destinations : Instruction → List Place
+destinations (Arithmetic op dtype sat s) = r (formD (s .form)) ∷ []
+destinations (Vset cmp s) = r (formD (s .form)) ∷ []
+destinations (VsetLanes cmp l) = r (l .d) ∷ []
+destinations (ArithmeticLanes op dtype sat l) = r (l .d) ∷ []
+destinations (Set dtype d s) = r d ∷ []
+destinations (Setp d s) = destinationPlaces d
+destinations (Selp s c) = operandPlace (s .d) ∷ []
+destinations (Slct ctype s c) = operandPlace (s .d) ∷ []
+
+abbrev pub formSources : Form → List Place
+formSources (Plain d) = []
+formSources (Merge d sel c) = r c ∷ []
+formSources (Combine op d c) = r c ∷ []
+
+abbrev pub combinationSources : Combination → List Place
+combinationSources Alone = []
+combinationSources (With op c) = p (c .pred) ∷ []
+
+abbrev pub scalarSources : Scalar → List Place
+scalarSources s = r (selectedWord (s .a)) ∷ r (selectedWord (s .b)) ∷ formSources (s .form)
+
+abbrev pub comparisonSources : Comparison → List Place
+comparisonSources s = operandPlace (s .a) ∷ operandPlace (s .b) ∷ combinationSources (s .combination)
+
+-- what it reads: a, b and, where it has one, c
+abbrev pub sources : Instruction → List Place
+sources (Arithmetic op dtype sat s) = scalarSources s
+sources (Vset cmp s) = scalarSources s
+sources (VsetLanes cmp l) = r (l .a) ∷ r (l .b) ∷ r (l .c) ∷ []
+sources (ArithmeticLanes op dtype sat l) = r (l .a) ∷ r (l .b) ∷ r (l .c) ∷ []
+sources (Set dtype d s) = comparisonSources s
+sources (Setp d s) = comparisonSources s
+sources (Selp s c) = operandPlace (s .a) ∷ operandPlace (s .b) ∷ p c ∷ []
+sources (Slct ctype s c) = operandPlace (s .a) ∷ operandPlace (s .b) ∷ r c ∷ []
+
+-- what a guard reads
+abbrev pub guardSources : Guard → List Place
+guardSources Always = []
+guardSources (When c) = p (c .pred) ∷ []
+
+-- ==== what is written, in operand order
+
+pub record Write : Type 0 where
+  pub place : Place
+  pub value : ℕ
+
+abbrev pub write : Place → ℕ → Write
+write q v = record { place = q; value = v }
 
 -- as much as the place holds: all of it where the widths agree, as in every legal record
 abbrev pub kept : Operand → ℕ → ℕ
@@ -86,26 +141,26 @@ kept (Operand.Double d) v = v
 
 -- setp writes BoolOp(t, c) to the first place, BoolOp(not t, c) to the second; `_` drops one
 abbrev pub destinationWrites : Destination → Bool → Bool → List Write
-destinationWrites (One p) first second = write (pred (p .0)) (bit first) ∷ []
-destinationWrites (Pair p q) first second = write (pred (p .0)) (bit first) ∷ write (pred (q .0)) (bit second) ∷ []
-destinationWrites (First p) first second = write (pred (p .0)) (bit first) ∷ []
-destinationWrites (Second q) first second = write (pred (q .0)) (bit second) ∷ []
+destinationWrites (One a) first second = write (p a) (bit first) ∷ []
+destinationWrites (Pair a b) first second = write (p a) (bit first) ∷ write (p b) (bit second) ∷ []
+destinationWrites (First a) first second = write (p a) (bit first) ∷ []
+destinationWrites (Second b) first second = write (p b) (bit second) ∷ []
 
 unfoldable pub writes : Instruction → Files → List Write
 writes (Arithmetic op dtype sat s) f =
-    write (word (formD (s .form) .0))
+    write (r (formD (s .form)))
     (arithmeticOf op dtype sat s (wordOf (f .words) (selectedWord (s .a))) (wordOf (f .words) (selectedWord (s .b))) (formC (f .words) (s .form)))
     ∷ []
 writes (Vset cmp s) f =
-    write (word (formD (s .form) .0))
+    write (r (formD (s .form)))
     (vsetOf cmp s (wordOf (f .words) (selectedWord (s .a))) (wordOf (f .words) (selectedWord (s .b))) (formC (f .words) (s .form)))
     ∷ []
 writes (VsetLanes cmp l) f =
-    write (word (l .d .0)) (lanesOf cmp l (wordOf (f .words) (l .a)) (wordOf (f .words) (l .b)) (wordOf (f .words) (l .c))) ∷ []
+    write (r (l .d)) (lanesOf cmp l (wordOf (f .words) (l .a)) (wordOf (f .words) (l .b)) (wordOf (f .words) (l .c))) ∷ []
 writes (ArithmeticLanes op dtype sat l) f =
-    write (word (l .d .0)) (arithmeticLanesOf op dtype sat l (wordOf (f .words) (l .a)) (wordOf (f .words) (l .b)) (wordOf (f .words) (l .c))) ∷ []
+    write (r (l .d)) (arithmeticLanesOf op dtype sat l (wordOf (f .words) (l .a)) (wordOf (f .words) (l .b)) (wordOf (f .words) (l .c))) ∷ []
 writes (Set dtype d s) f =
-    write (word (d .0)) (setOf dtype (combinedOf (f .preds) (s .combination) (testOf (f .words) (f .doubles) s))) ∷ []
+    write (r d) (setOf dtype (combinedOf (f .preds) (s .combination) (testOf (f .words) (f .doubles) s))) ∷ []
 writes (Setp d s) f =
     destinationWrites d (combinedOf (f .preds) (s .combination) (testOf (f .words) (f .doubles) s))
     (combinedOf (f .preds) (s .combination) (not (testOf (f .words) (f .doubles) s)))
@@ -140,9 +195,18 @@ sizesFit f = eqb (length (f .words)) wordCount && eqb (length (f .doubles)) doub
 -- 11 says that this does not hold: some predicate byte over 1
 unfoldable pub predsFit : List ℕ → Bool
 predsFit [] = true
-predsFit (p ∷ ps) = leb p 1 && predsFit ps
+predsFit (b ∷ ps) = leb b 1 && predsFit ps
 
--- Execution answers done or skipped (guard false, nothing changed). A refusal returns its number
+-- the files that executing admits
+pub record Admitted (f : Files) : Type 0 where
+  pub sizes : sizesFit f ≡ true
+  pub bits : predsFit (f .preds) ≡ true
+
+unfoldable pub guardHolds : List ℕ → Guard → Bool
+guardHolds preds Always = true
+guardHolds preds (When c) = conditionHolds preds c
+
+-- Execution answers done or skipped (guard false, nothing changed). A refusal returns its number only
 pub data Answer : Type 0 where
   done : Answer
   skipped : Answer
@@ -155,23 +219,11 @@ pub record Outcome : Type 0 where
 abbrev pub outcome : Answer → Files → Outcome
 outcome a f = record { answer = a; files = f }
 
--- Executing: 8, 10, 11, each looked at only when the earlier ones don't apply; 0 where none applies
-abbrev pub firstRefusal : Bool → Bool → Bool → ℕ
-firstRefusal illegal wrongSizes wrongPreds = cond illegal 8 (cond wrongSizes 10 (cond wrongPreds 11 0))
-
-unfoldable pub guardHolds : List ℕ → Guard → Bool
-guardHolds preds Always = true
-guardHolds preds (When c) = conditionHolds preds c
-
--- skipped: guard false, nothing changed
-abbrev pub guarded : Bool → Instruction → Files → Outcome
-guarded true i f = outcome done (after i f)
-guarded false i f = outcome skipped f
-
--- Lent memory is unchanged by a refusal
-abbrev pub decided : ℕ → Record → Files → Outcome
-decided zero r f = guarded (guardHolds (f .preds) (r .guard)) (r .instruction) f
-decided (suc n) r f = outcome (refused (suc n)) f
-
+-- Executing: 8, 10, 11, each looked at only when the earlier ones don't apply. Lent memory is unchanged by a refusal
 unfoldable pub run : Record → Files → Outcome
-run r f = decided (firstRefusal (not (isLegal r)) (not (sizesFit f)) (not (predsFit (f .preds)))) r f
+run x f =
+    cond (not (isLegal x)) (outcome (refused 8) f)
+    (cond (not (sizesFit f)) (outcome (refused 10) f)
+    (cond (not (predsFit (f .preds))) (outcome (refused 11) f)
+    (cond (guardHolds (f .preds) (x .guard)) (outcome done (after (x .instruction) f))
+    (outcome skipped f))))

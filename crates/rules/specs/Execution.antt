@@ -1,11 +1,11 @@
 -- Document 01, "What execution does": its bullets in their order, with request T-01 after vset2 and vset4 and T-02 in slct, as functions of what the registers hold before. Each sentence stands above
 -- what says it; those on files, guards and places are in Executing.antt. Words are untyped, so an f32 is its bits. Subnormal numbers are kept.
 use Prim.Native.Nat.{ℕ, zero, suc, _+_, _-_, _/_, _%_}
-use mathlib.Core.Bool.{Bool, true, false, not, _&&_, _||_, cond}
+use mathlib.Core.Bool.{Bool, Bool·beq, true, false, not, _&&_, _||_, cond}
 use lib.IntN.{ℤ, pos, negsuc, negℤ, _+ℤ_, _-ℤ_}
 use lib.Signed.{ltZ, leZ}
 use lib.Dec.{ltb, leb, eqb}
-use lib.Ieee.{Float, binary32, binary64, ofBits, isNan, lt, eq, unlike, top, hid}
+use lib.Ieee.{Float, binary32, binary64, ofBits, isNan, lt, eq, top, hid}
 use Rattle.record.specs.declared.VideoType.{VideoType}
 use Rattle.record.specs.declared.LaneWidth.{LaneWidth}
 use Rattle.record.specs.declared.LaneWidth.the-variants.{Half, Byte}
@@ -278,7 +278,7 @@ comparisonOf op ftz stype a b = valuesHold op (valueOf stype ftz a) (valueOf sty
 abbrev pub boolOf : BoolOp → Bool → Bool → Bool
 boolOf And t c = t && c
 boolOf Or t c = t || c
-boolOf Xor t c = unlike t c
+boolOf Xor t c = not (Bool·beq t c)
 
 -- set writes 0xffffffff, for dtype f32 0x3f800000, when .. is true, else 0
 abbrev pub trueOf : SetType → ℕ

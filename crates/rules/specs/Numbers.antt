@@ -4,6 +4,7 @@ use mathlib.Core.Bool.{Bool, true, false, not, _&&_, cond}
 use lib.IntN.{ℤ, pos, negsuc, subℕ}
 use lib.Signed.{ltZ, leZ}
 use lib.Dec.{leb}
+use Rattle.record.specs.Registers.{wordBits, doubleBits}
 use Rattle.record.specs.declared.VideoType.{VideoType}
 use Rattle.record.specs.declared.VideoType.the-variants.{U32, S32}
 use Rattle.record.specs.declared.LaneWidth.{LaneWidth}
@@ -13,10 +14,10 @@ use Rattle.record.specs.declared.Cmp6.the-variants.{Eq, Ne, Lt, Le, Gt, Ge}
 
 -- how many values a word has, and how many a double
 abbrev pub wordSize : ℕ
-wordSize = 2 ^ 32
+wordSize = 2 ^ wordBits
 
 abbrev pub doubleSize : ℕ
-doubleSize = 2 ^ 64
+doubleSize = 2 ^ doubleBits
 
 -- how many values a lane has, and how many lanes a word: two halves or four bytes
 abbrev pub laneSize : LaneWidth → ℕ

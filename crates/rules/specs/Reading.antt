@@ -1,23 +1,22 @@
 -- Document 01, which record a line spells, and refusals 1 to 7: said of the line's tree and of the records that it spells. Apart from any reader.
 use Prim.Native.Nat.{ℕ, _≤_, _<_}
 use mathlib.Core.Path.{_≡_}
-use mathlib.Core.Bool.{Bool, true, false}
-use mathlib.Core.List.{List, [], _∷_}
+use mathlib.Core.Bool.{Bool, true}
+use mathlib.Core.List.{List, [], _∷_, _++_}
 use lib.ListN.{length}
 use Rattle.signs.specs.Text.{bytes}
 use Rattle.record.specs.Modifiers.{instructionModifiersFit, modifiersFit}
 use Rattle.record.specs.Operands.{lanesFit, operandsFit}
-use Rattle.record.specs.Refusals.{numbersInRange, pairApart, Legal}
+use Rattle.record.specs.Registers.{Place, pred, p, numberOf, fileSize}
+use Rattle.record.specs.Refusals.{Legal}
 use Rattle.record.specs.declared.Guard.{Guard}
-use Rattle.record.specs.declared.Lanes.{Lanes}
 use Rattle.record.specs.declared.Guard.the-variants.{Always, When}
 use Rattle.record.specs.declared.Instruction.{Instruction}
 use Rattle.record.specs.declared.Instruction.the-variants.{Arithmetic, Vset, VsetLanes, ArithmeticLanes, Set, Setp, Selp, Slct}
 use Rattle.record.specs.declared.Record.{Record}
-use Rattle.rules.specs.Shape.{Name, OperandTree, bare, part}
-use Rattle.rules.specs.Names.{headNames, maskName, digitsName}
-use Rattle.record.specs.Registers.{r, p}
-use Rattle.rules.specs.Spelling.{operandTrees}
+use Rattle.rules.specs.Shape.{Name, Spot, at, nothing, OperandTree, inverted, pair, bare, part}
+use Rattle.rules.specs.Names.{headNames}
+use Rattle.rules.specs.Spelling.{operandTrees, writtenTrees}
 use Rattle.rules.specs.Grammar.{LineTree, GuardTree, unguarded, guarded, namesOf, operandsOf, Shaped}
 
 -- ==== which record a line spells
@@ -28,25 +27,6 @@ GuardSpells unguarded Always = Unit {0}
 GuardSpells unguarded (When c) = ⊥
 GuardSpells (guarded negated q blanks) Always = ⊥
 GuardSpells (guarded negated q blanks) (When c) = (negated ≡ c .inverted) × (q ≡ p (c .pred))
-
--- the operands with every mask and selector of the forms with 2 and 4 written out
-abbrev pub writtenLanes : Lanes → List OperandTree
-writtenLanes l =
-    part (r (l .d)) (maskName (l .width) (l .mask))
-    ∷ part (r (l .a)) (digitsName (l .width) (l .asel))
-    ∷ part (r (l .b)) (digitsName (l .width) (l .bsel))
-    ∷ bare (r (l .c))
-    ∷ []
-
-abbrev pub writtenTrees : Instruction → List OperandTree
-writtenTrees (VsetLanes cmp l) = writtenLanes l
-writtenTrees (ArithmeticLanes op dtype sat l) = writtenLanes l
-writtenTrees (Arithmetic op dtype sat s) = operandTrees (Arithmetic op dtype sat s)
-writtenTrees (Vset cmp s) = operandTrees (Vset cmp s)
-writtenTrees (Set dtype d s) = operandTrees (Set dtype d s)
-writtenTrees (Setp d s) = operandTrees (Setp d s)
-writtenTrees (Selp s c) = operandTrees (Selp s c)
-writtenTrees (Slct ctype s c) = operandTrees (Slct ctype s c)
 
 -- A bare operand and its written default are one record: o stands as in the standard line, or written out
 pub data OneOf (o standing written : OperandTree) : Type 0 where
@@ -89,7 +69,7 @@ pub record Relates (l : List ℕ) (m : Record) : Type 0 where
   pub shaped : Shaped l tree
   pub spells : Spells tree m
 
--- ==== refusals 1 to 7, each looked at only when the earlier ones don't apply
+-- ==== refusals 1 to 7
 
 -- Read, written and executed; T-01 adds the twelve in the third and fourth rows (Refusals: none new)
 abbrev pub opcodes : List Name
@@ -101,9 +81,10 @@ opcodes =
     ∷ bytes "set" ∷ bytes "setp" ∷ bytes "selp" ∷ bytes "slct"
     ∷ []
 
-pub data Listed (n : Name) : List Name → Type 0 where
-  here : {m : Name} {ns : List Name} → n ≡ m → Listed n (m ∷ ns)
-  later : {m : Name} {ns : List Name} → Listed n ns → Listed n (m ∷ ns)
+-- x stands in the list
+pub data Listed {A : Type 0} (x : A) : List A → Type 0 where
+  here : {y : A} {ys : List A} → x ≡ y → Listed x (y ∷ ys)
+  later : {y : A} {ys : List A} → Listed x ys → Listed x (y ∷ ys)
 
 -- the head is a row of the table: an instruction with fitting modifiers has these names
 pub record Row (t : LineTree) (i : Instruction) : Type 0 where
@@ -116,24 +97,57 @@ pub record Fits (t : LineTree) (m : Record) : Type 0 where
   pub modifiers : modifiersFit m ≡ true
   pub operands : operandsFit m ≡ true
 
-pub data Refuses (l : List ℕ) : ℕ → Type 0 where
+-- the registers of a line, from left to right: the guard's, then those of the operands
+abbrev pub guardRegisters : GuardTree → List Place
+guardRegisters unguarded = []
+guardRegisters (guarded negated q blanks) = q ∷ []
+
+abbrev pub spotRegisters : Spot → List Place
+spotRegisters (at q) = q ∷ []
+spotRegisters nothing = []
+
+abbrev pub operandRegisters : OperandTree → List Place
+operandRegisters (inverted q) = q ∷ []
+operandRegisters (pair u v) = spotRegisters u ++ spotRegisters v
+operandRegisters (bare q) = q ∷ []
+operandRegisters (part q n) = q ∷ []
+
+abbrev pub operandsRegisters : List OperandTree → List Place
+operandsRegisters [] = []
+operandsRegisters (o ∷ os) = operandRegisters o ++ operandsRegisters os
+
+abbrev pub registersOf : LineTree → List Place
+registersOf t = guardRegisters (t .guard) ++ operandsRegisters (operandsOf t)
+
+-- the rows of the table, each said of the line alone, whatever else is wrong with it
+pub data Applies (l : List ℕ) : ℕ → Type 0 where
   -- line over 160 bytes
-  over-160 : lineLimit < length l → Refuses l 1
+  too-long : lineLimit < length l → Applies l 1
   -- line lacks the shape above
-  no-shape : length l ≤ lineLimit → ((t : LineTree) → Shaped l t → ⊥) → Refuses l 2
+  shapeless : ((t : LineTree) → Shaped l t → ⊥) → Applies l 2
   -- first name of the head is no opcode here
-  no-opcode : length l ≤ lineLimit → (t : LineTree) → Shaped l t → (Listed (t .opcode) opcodes → ⊥) → Refuses l 3
+  unknown : (t : LineTree) → Shaped l t → (Listed (t .opcode) opcodes → ⊥) → Applies l 3
   -- modifiers not in the table
-  no-row : length l ≤ lineLimit → (t : LineTree) → Shaped l t → Listed (t .opcode) opcodes → ((i : Instruction) → Row t i → ⊥) → Refuses l 4
+  rowless : (t : LineTree) → Shaped l t → ((i : Instruction) → Row t i → ⊥) → Applies l 4
   -- guard or operands wrong in count, kind, `!`, pair or selector
-  no-fit : length l ≤ lineLimit → (t : LineTree) → Shaped l t → (i : Instruction) → Row t i → ((m : Record) → Fits t m → ⊥) → Refuses l 5
+  unfit : (t : LineTree) → Shaped l t → ((m : Record) → Fits t m → ⊥) → Applies l 5
   -- a register number at or over its file's size
-  out-of-file : length l ≤ lineLimit → (t : LineTree) → Shaped l t → (m : Record) → Fits t m → numbersInRange m ≡ false → Refuses l 6
+  outside : (t : LineTree) → Shaped l t → (q : Place) → Listed q (registersOf t) → fileSize q ≤ numberOf q → Applies l 6
   -- both places of a pair are the same predicate
-  same-pair : length l ≤ lineLimit → (t : LineTree) → Shaped l t → (m : Record) → Fits t m → numbersInRange m ≡ true → pairApart m ≡ false → Refuses l 7
+  equal : (t : LineTree) → Shaped l t → (n : ℕ) → Listed (pair (at (pred n)) (at (pred n))) (operandsOf t) → Applies l 7
+
+-- Reading: 1 to 7,
+abbrev pub readingOrder : List ℕ
+readingOrder = 1 ∷ 2 ∷ 3 ∷ 4 ∷ 5 ∷ 6 ∷ 7 ∷ []
+
+-- each looked at only when the earlier ones don't apply: n is the first of the numbers that applies
+pub data FirstOf (l : List ℕ) (n : ℕ) : List ℕ → Type 0 where
+  this : {ns : List ℕ} → Applies l n → FirstOf l n (n ∷ ns)
+  next : {k : ℕ} {ns : List ℕ} → (Applies l k → ⊥) → FirstOf l n ns → FirstOf l n (k ∷ ns)
 
 -- ==== the answer of reading
 
+-- A refusal returns its number only, no record
 pub data Answer : Type 0 where
   read : Record → Answer
   refused : ℕ → Answer
@@ -141,4 +155,4 @@ pub data Answer : Type 0 where
 -- accepted exactly when the grammar relates the line to a legal record; else the first refusal that applies
 pub data Answers (l : List ℕ) : Answer → Type 0 where
   accepts : (m : Record) → Relates l m → Legal m → Answers l (read m)
-  refuses : {n : ℕ} → Refuses l n → Answers l (refused n)
+  refuses : {n : ℕ} → FirstOf l n readingOrder → Answers l (refused n)

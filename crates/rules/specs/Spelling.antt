@@ -98,3 +98,22 @@ operandTrees (Set dtype d s) = bare (r d) ∷ sourceTrees s
 operandTrees (Setp d s) = destinationTree d ∷ sourceTrees s
 operandTrees (Selp s c) = choiceTrees s (p c)
 operandTrees (Slct ctype s c) = choiceTrees s (r c)
+
+-- the operands with every mask and selector of the forms with 2 and 4 written out
+abbrev pub writtenLanes : Lanes → List OperandTree
+writtenLanes l =
+    part (r (l .d)) (maskName (l .width) (l .mask))
+    ∷ part (r (l .a)) (digitsName (l .width) (l .asel))
+    ∷ part (r (l .b)) (digitsName (l .width) (l .bsel))
+    ∷ bare (r (l .c))
+    ∷ []
+
+abbrev pub writtenTrees : Instruction → List OperandTree
+writtenTrees (VsetLanes cmp l) = writtenLanes l
+writtenTrees (ArithmeticLanes op dtype sat l) = writtenLanes l
+writtenTrees (Arithmetic op dtype sat s) = operandTrees (Arithmetic op dtype sat s)
+writtenTrees (Vset cmp s) = operandTrees (Vset cmp s)
+writtenTrees (Set dtype d s) = operandTrees (Set dtype d s)
+writtenTrees (Setp d s) = operandTrees (Setp d s)
+writtenTrees (Selp s c) = operandTrees (Selp s c)
+writtenTrees (Slct ctype s c) = operandTrees (Slct ctype s c)

@@ -1,6 +1,6 @@
 -- Document 01, "Refusal numbers" for writing: refusals 8 and 9, the length, and what the output buffer holds then.
-use Prim.Native.Nat.{ℕ, zero, suc}
-use mathlib.Core.Bool.{Bool, not, cond}
+use Prim.Native.Nat.{ℕ}
+use mathlib.Core.Bool.{not, cond}
 use mathlib.Core.List.{List, _++_}
 use lib.ListN.{length, drop}
 use lib.Dec.{ltb}
@@ -20,19 +20,14 @@ pub record Outcome : Type 0 where
 abbrev pub outcome : Answer → List ℕ → Outcome
 outcome a b = record { answer = a; buffer = b }
 
--- Writing: 8, 9, each looked at only when the earlier ones don't apply; 0 where none applies
-abbrev pub firstRefusal : Bool → Bool → ℕ
-firstRefusal illegal short = cond illegal 8 (cond short 9 0)
-
 -- changes only those first bytes
 abbrev pub front : List ℕ → List ℕ → List ℕ
 front line buffer = line ++ drop (length line) buffer
 
--- Lent memory is unchanged by a refusal
-abbrev pub decided : ℕ → List ℕ → List ℕ → Outcome
-decided zero line buffer = outcome (written (length line)) (front line buffer)
-decided (suc n) line buffer = outcome (refused (suc n)) buffer
-
--- 9: output buffer shorter than the standard line
+-- Writing: 8, 9 (output buffer shorter than the standard line), each looked at only when the earlier ones don't apply. Lent memory is
+-- unchanged by a refusal
 unfoldable pub writing : Record → List ℕ → Outcome
-writing r buffer = decided (firstRefusal (not (isLegal r)) (ltb (length buffer) (length (standard r)))) (standard r) buffer
+writing x buffer =
+    cond (not (isLegal x)) (outcome (refused 8) buffer)
+    (cond (ltb (length buffer) (length (standard x))) (outcome (refused 9) buffer)
+    (outcome (written (length (standard x))) (front (standard x) buffer)))

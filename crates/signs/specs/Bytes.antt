@@ -6,6 +6,10 @@ use mathlib.Core.List.{List, [], _∷_}
 use lib.Dec.{leb, eqb}
 use lib.ListN.{length}
 
+-- the byte that ends a line of a listing
+abbrev pub lineFeed : ℕ
+lineFeed = 10
+
 -- Blank means space or tab
 abbrev pub isBlank : ℕ → Bool
 isBlank b = eqb b 32 || eqb b 9

@@ -1,3 +1,4 @@
+use Rattle.execute.proofs.Laws.{inverts}
 use borrow.Author.Needs.{needs}
 use Rattle.execute.proofs.condition_holds.Statement.{statement}
 use Rattle.execute.proofs.condition_holds.Tie as tie
@@ -8,7 +9,7 @@ pred-at-requires c κs = search needs
 returns : tie.Need-returns
 returns c =
     simp
-    (c .before .pred-at .ensures)
+    (c .before .pred-at .ensures, inverts)
 
 pub condition-holds-spec : {M : Type 1} → statement M
 condition-holds-spec = tie.close (tie.spec pred-at-requires returns)

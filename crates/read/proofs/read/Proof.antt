@@ -5,10 +5,9 @@ use borrow.Fn.Kinds.{Dens, endedOf}
 use borrow.Author.Tests.{not-true, not-false}
 use denote.Triple.Clauses.{AtExit}
 use denote.Ref.{now}
-use Rattle.rules.specs.Reading.{over-160, refuses}
 use Rattle.shape.specs.Line.{shapeOf}
 use Rattle.read.specs.Paper.{answers-one}
-use Rattle.read.specs.Laws.{answers-unique, ends-unshaped, ends-shaped}
+use Rattle.read.specs.Answering.{answers-unique, ends-long, ends-unshaped, ends-shaped}
 use Rattle.read.specs.declared.Reading.{Reading}
 use Rattle.read.proofs.read.Kinds as kinds
 use borrow.Author.Needs.{needs}
@@ -20,7 +19,7 @@ reading-requires : tie.Need-reading-requires
 reading-requires c κs = search needs
 
 returns : tie.Need-returns
-returns c = rw (c .reading .ensures) (refuses (over-160 (c .before .if1 .taken)))
+returns c = rw (c .reading .ensures) (ends-long _ (c .before .if1 .taken))
 
 shape-requires : tie.Need-shape-requires
 shape-requires c κs = search needs

@@ -1,0 +1,395 @@
+-- What `run` leaves in the files: which places move, what each destination holds, that nothing else moves. Assumes nothing.
+use Prim.Native.Nat.{ℕ, _<_, _+_, _%_}
+use native.Mathlib.Omega.{arith}
+use mathlib.Core.Path.{_≡_, refl, sym, ap, ap₂, subst, _∙_}
+use mathlib.Core.Bool.{Bool, true, false, not, _&&_, cond, and-eq-true-iff}
+use mathlib.Core.List.{List, [], _∷_, _++_}
+use lib.ListN.{getD, set, length, length-set}
+use lib.Seq.{getD-set-same, getD-set-other}
+use lib.Dec.{eqb}
+use lib.IntN.{ℤ, pos, _+ℤ_}
+use borrow.Author.Tests.{eqb-true, ltb-true, not-true, eq-eqb}
+use Rattle.record.specs.Registers.{Files, Place, word, double, pred, r, p, operandPlace, at, Inside, numberOf, fileSize, wordCount, doubleCount, predCount}
+use Rattle.record.specs.Refusals.{isLegal, Legal, instructionApart, destinationApart}
+use Rattle.record.specs.declared.Cmp6.{Cmp6}
+use Rattle.record.specs.declared.LaneArith.{LaneArith}
+use Rattle.record.specs.declared.VideoType.{VideoType}
+use Rattle.record.specs.declared.Lanes.{Lanes}
+use Rattle.record.specs.declared.Pred.{Pred}
+use Rattle.record.specs.declared.Condition.{Condition}
+use Rattle.record.specs.declared.Choice.{Choice}
+use Rattle.record.specs.declared.Scalar.{Scalar}
+use Rattle.record.specs.declared.Form.{Form}
+use Rattle.record.specs.declared.Form.the-variants.{Plain, Merge, Combine}
+use Rattle.record.specs.declared.Operand
+use Rattle.record.specs.declared.Operand.{Operand}
+use Rattle.record.specs.declared.Guard.{Guard}
+use Rattle.record.specs.declared.Guard.the-variants.{Always, When}
+use Rattle.record.specs.declared.BoolOp.{BoolOp}
+use Rattle.record.specs.declared.Combination.{Combination}
+use Rattle.record.specs.declared.Combination.the-variants.{Alone, With}
+use Rattle.record.specs.declared.Comparison.{Comparison}
+use Rattle.record.specs.declared.Destination.{Destination}
+use Rattle.record.specs.declared.Destination.the-variants.{One, Pair, First, Second}
+use Rattle.record.specs.declared.Instruction.{Instruction}
+use Rattle.record.specs.declared.Instruction.the-variants.{Arithmetic, Vset, VsetLanes, ArithmeticLanes, Set, Setp, Selp, Slct}
+use Rattle.record.specs.declared.Record.{Record}
+use Rattle.rules.specs.Reading.{Listed}
+use Rattle.rules.specs.Reading.Listed.{here, later}
+use Rattle.rules.specs.Numbers.{wordSize, laneSize, lanes, partAt, lowOf, bit}
+use Rattle.rules.specs.Execution.{arithmeticOf, vsetOf, comparisonOf, setOf, selpOf, slctOf, lanesOf, arithmeticLanesOf, maskAt, laneHolds, count, laneResult, sumZ, boolOf}
+use Rattle.rules.specs.Executing.{operandOf, selectedWord, formC, formSources, conditionHolds, combinationSources, comparisonSources, scalarSources, kept, Write, write, writes, formD, destinationWrites, destinationPlaces, destinations, sources, guardSources, put, putAll, after, predHolds, combinedOf, testOf, Answer, Outcome, outcome, done, skipped, refused, run, guardHolds, sizesFit, predsFit, Admitted}
+use Rattle.laws.specs.PlaceLaws.{legal-parts, legal-inside}
+use Rattle.laws.specs.ExecutionLaws.{masked-gets-bit, unmasked-keeps-c, add-counts, masked-gets-low, unmasked-keeps-lane, add-sums}
+
+-- ==== what `run` leaves is what was lent, or what stands after the instruction
+
+module _ (x : Record) (f : Files) where
+  -- what holds of both holds of what is left
+  left-by : (P : Files → Type 0) → P f → P (after (x .instruction) f) → P (run x f .files)
+  unfolding run
+  left-by P h k = go (not (isLegal x)) (not (sizesFit f)) (not (predsFit (f .preds))) (guardHolds (f .preds) (x .guard))
+    where
+      go : (a b c g : Bool)
+          → P (cond a (outcome (refused 8) f) (cond b (outcome (refused 10) f) (cond c (outcome (refused 11) f) (cond g (outcome done (after (x .instruction) f)) (outcome skipped f)))) .files)
+      go true b c g = h
+      go false true c g = h
+      go false false true g = h
+      go false false false true = k
+      go false false false false = h
+
+  pub executes : Legal x → Admitted f → guardHolds (f .preds) (x .guard) ≡ true → run x f ≡ outcome done (after (x .instruction) f)
+  unfolding run
+  executes e a g = rw (e, a .sizes, a .bits, g)
+
+  pub skips : Legal x → Admitted f → guardHolds (f .preds) (x .guard) ≡ false → run x f ≡ outcome skipped f
+  unfolding run
+  skips e a g = rw (e, a .sizes, a .bits, g)
+
+  -- skipped and refused move nothing
+  pub unless-done-unmoved : (run x f .answer ≡ done → ⊥) → run x f .files ≡ f
+  unfolding run
+  unless-done-unmoved = go (not (isLegal x)) (not (sizesFit f)) (not (predsFit (f .preds))) (guardHolds (f .preds) (x .guard))
+    where
+      said : Bool → Bool → Bool → Bool → Outcome
+      said a b c g =
+          cond a (outcome (refused 8) f)
+          (cond b (outcome (refused 10) f) (cond c (outcome (refused 11) f) (cond g (outcome done (after (x .instruction) f)) (outcome skipped f))))
+
+      go : (a b c g : Bool) → (said a b c g .answer ≡ done → ⊥) → said a b c g .files ≡ f
+      go true b c g h = refl
+      go false true c g h = refl
+      go false false true g h = refl
+      go false false false true h = absurd (h refl)
+      go false false false false h = refl
+
+-- ==== nothing else moves
+
+abbrev pub placesOf : List Write → List Place
+placesOf [] = []
+placesOf (w ∷ ws) = w .place ∷ placesOf ws
+
+destination-places : (d : Destination) (t u : Bool) → placesOf (destinationWrites d t u) ≡ destinationPlaces d
+destination-places (One a) t u = refl
+destination-places (Pair a b) t u = refl
+destination-places (First a) t u = refl
+destination-places (Second b) t u = refl
+
+-- the places that are written are the record's destinations, whatever the files hold
+pub writes-destinations : (i : Instruction) (f : Files) → placesOf (writes i f) ≡ destinations i
+unfolding writes
+writes-destinations (Arithmetic op dtype sat s) f = refl
+writes-destinations (Vset cmp s) f = refl
+writes-destinations (VsetLanes cmp l) f = refl
+writes-destinations (ArithmeticLanes op dtype sat l) f = refl
+writes-destinations (Set dtype d s) f = refl
+writes-destinations (Setp d s) f = destination-places d _ _
+writes-destinations (Selp s c) f = refl
+writes-destinations (Slct ctype s c) f = refl
+
+other : (xs : List ℕ) (m n v : ℕ) → (m ≡ n → ⊥) → getD (set xs m v) n 0 ≡ getD xs n 0
+other xs m n v h = getD-set-other xs m n v 0 (λ e. h (sym e))
+
+put-other : (q s : Place) (v : ℕ) (f : Files) → (s ≡ q → ⊥) → at (put s v f) q ≡ at f q
+put-other (word n) (word m) v f h = other (f .words) m n v (λ e. h (ap word e))
+put-other (word n) (double m) v f h = refl
+put-other (word n) (pred m) v f h = refl
+put-other (double n) (word m) v f h = refl
+put-other (double n) (double m) v f h = other (f .doubles) m n v (λ e. h (ap double e))
+put-other (double n) (pred m) v f h = refl
+put-other (pred n) (word m) v f h = refl
+put-other (pred n) (double m) v f h = refl
+put-other (pred n) (pred m) v f h = other (f .preds) m n v (λ e. h (ap pred e))
+
+put-all-other : (q : Place) (ws : List Write) (f : Files) → (Listed q (placesOf ws) → ⊥) → at (putAll ws f) q ≡ at f q
+put-all-other q [] f h = refl
+put-all-other q (w ∷ ws) f h =
+    put-all-other q ws (put (w .place) (w .value) f) (λ e. h (later e)) ∙ put-other q (w .place) (w .value) f (λ e. h (here (sym e)))
+
+-- a place that is no destination of the record holds what it held
+pub others-stay : (x : Record) (f : Files) (q : Place) → (Listed q (destinations (x .instruction)) → ⊥) → at (run x f .files) q ≡ at f q
+unfolding after
+others-stay x f q h =
+    left-by x f (λ (g : Files). at g q ≡ at f q) refl
+    (put-all-other q (writes (x .instruction) f) f (λ e. h (subst (Listed q) (writes-destinations (x .instruction) f) e)))
+
+-- no file becomes longer or shorter
+pub record SameLengths (f g : Files) : Type 0 where
+  pub words : length (g .words) ≡ length (f .words)
+  pub doubles : length (g .doubles) ≡ length (f .doubles)
+  pub preds : length (g .preds) ≡ length (f .preds)
+
+same-lengths : (f : Files) → SameLengths f f
+same-lengths f = record { words = refl; doubles = refl; preds = refl }
+
+put-lengths : (q : Place) (v : ℕ) (f : Files) → SameLengths f (put q v f)
+put-lengths (word n) v f = record { words = length-set (f .words) n v; doubles = refl; preds = refl }
+put-lengths (double n) v f = record { words = refl; doubles = length-set (f .doubles) n v; preds = refl }
+put-lengths (pred n) v f = record { words = refl; doubles = refl; preds = length-set (f .preds) n v }
+
+put-all-lengths : (ws : List Write) (f : Files) → SameLengths f (putAll ws f)
+put-all-lengths [] f = same-lengths f
+put-all-lengths (w ∷ ws) f =
+    let h = put-lengths (w .place) (w .value) f in
+    let k = put-all-lengths ws (put (w .place) (w .value) f) in
+    record { words = k .words ∙ h .words; doubles = k .doubles ∙ h .doubles; preds = k .preds ∙ h .preds }
+
+pub lengths-stay : (x : Record) (f : Files) → SameLengths f (run x f .files)
+unfolding after
+lengths-stay x f = left-by x f (SameLengths f) (same-lengths f) (put-all-lengths (writes (x .instruction) f) f)
+
+-- ==== nothing but the sources is read
+
+-- both files hold the same in each of the places
+abbrev pub Agree : Files → Files → List Place → Type 0
+Agree f g qs = (q : Place) → Listed q qs → at f q ≡ at g q
+
+module _ (f g : Files) where
+  operand-same : (o : Operand) → at f (operandPlace o) ≡ at g (operandPlace o) → operandOf (f .words) (f .doubles) o ≡ operandOf (g .words) (g .doubles) o
+  operand-same (Operand.Word w) e = e
+  operand-same (Operand.Double d) e = e
+
+  form-same : (s : Form) → Agree f g (formSources s) → formC (f .words) s ≡ formC (g .words) s
+  form-same (Plain d) h = refl
+  form-same (Merge d sel c) h = h (r c) (here refl)
+  form-same (Combine op d c) h = h (r c) (here refl)
+
+  condition-same : (c : Condition) → at f (p (c .pred)) ≡ at g (p (c .pred)) → conditionHolds (f .preds) c ≡ conditionHolds (g .preds) c
+  condition-same c e = ap (λ (v : ℕ). cond (c .inverted) (not (eqb v 1)) (eqb v 1)) e
+
+  combined-same : (c : Combination) (t : Bool) → Agree f g (combinationSources c) → combinedOf (f .preds) c t ≡ combinedOf (g .preds) c t
+  unfolding combinedOf
+  combined-same Alone t h = refl
+  combined-same (With op c) t h = ap (boolOf op t) (condition-same c (h (p (c .pred)) (here refl)))
+
+  test-same : (s : Comparison) → Agree f g (comparisonSources s) → testOf (f .words) (f .doubles) s ≡ testOf (g .words) (g .doubles) s
+  unfolding testOf
+  test-same s h =
+      ap₂ (comparisonOf (s .cmp) (s .ftz) (s .stype)) (operand-same (s .a) (h (operandPlace (s .a)) (here refl)))
+      (operand-same (s .b) (h (operandPlace (s .b)) (later (here refl))))
+
+  outcome-same : (s : Comparison) → Agree f g (comparisonSources s) → (turn : Bool → Bool)
+      → combinedOf (f .preds) (s .combination) (turn (testOf (f .words) (f .doubles) s)) ≡ combinedOf (g .preds) (s .combination) (turn (testOf (g .words) (g .doubles) s))
+  outcome-same s h turn =
+      ap (λ (t : Bool). combinedOf (f .preds) (s .combination) (turn t)) (test-same s h)
+      ∙ combined-same (s .combination) (turn (testOf (g .words) (g .doubles) s)) (λ q e. h q (later (later e)))
+
+  lanes-same : (l : Lanes) (give : ℕ → ℕ → ℕ → ℕ) → Agree f g (r (l .a) ∷ r (l .b) ∷ r (l .c) ∷ [])
+      → write (r (l .d)) (give (at f (r (l .a))) (at f (r (l .b))) (at f (r (l .c)))) ∷ []
+      ≡ write (r (l .d)) (give (at g (r (l .a))) (at g (r (l .b))) (at g (r (l .c)))) ∷ []
+  lanes-same l give h = rw (h (r (l .a)) (here refl), h (r (l .b)) (later (here refl)), h (r (l .c)) (later (later (here refl))))
+
+  scalar-same : (s : Scalar) (give : ℕ → ℕ → ℕ → ℕ) → Agree f g (scalarSources s)
+      → write (r (formD (s .form))) (give (at f (r (selectedWord (s .a)))) (at f (r (selectedWord (s .b)))) (formC (f .words) (s .form))) ∷ []
+      ≡ write (r (formD (s .form))) (give (at g (r (selectedWord (s .a)))) (at g (r (selectedWord (s .b)))) (formC (g .words) (s .form))) ∷ []
+  scalar-same s give h =
+      rw (h (r (selectedWord (s .a))) (here refl), h (r (selectedWord (s .b))) (later (here refl)), form-same (s .form) (λ q e. h q (later (later e))))
+
+  choice-same : (s : Choice) (c : Place) (give : ℕ → ℕ → ℕ → ℕ) → Agree f g (operandPlace (s .a) ∷ operandPlace (s .b) ∷ c ∷ [])
+      → write (operandPlace (s .d)) (kept (s .d) (give (at f c) (operandOf (f .words) (f .doubles) (s .a)) (operandOf (f .words) (f .doubles) (s .b)))) ∷ []
+      ≡ write (operandPlace (s .d)) (kept (s .d) (give (at g c) (operandOf (g .words) (g .doubles) (s .a)) (operandOf (g .words) (g .doubles) (s .b)))) ∷ []
+  choice-same s c give h =
+      rw
+      (h c (later (later (here refl))), operand-same (s .a) (h (operandPlace (s .a)) (here refl)), operand-same (s .b) (h (operandPlace (s .b)) (later (here refl))))
+
+  -- files that agree on the sources get the same writes
+  pub reads-sources : (i : Instruction) → Agree f g (sources i) → writes i f ≡ writes i g
+  unfolding writes
+  reads-sources (Arithmetic op dtype sat s) h = scalar-same s (arithmeticOf op dtype sat s) h
+  reads-sources (Vset cmp s) h = scalar-same s (vsetOf cmp s) h
+  reads-sources (VsetLanes cmp l) h = lanes-same l (lanesOf cmp l) h
+  reads-sources (ArithmeticLanes op dtype sat l) h = lanes-same l (arithmeticLanesOf op dtype sat l) h
+  reads-sources (Set dtype d s) h = ap (λ (t : Bool). write (r d) (setOf dtype t) ∷ []) (outcome-same s h (λ t. t))
+  reads-sources (Setp d s) h = ap₂ (destinationWrites d) (outcome-same s h (λ t. t)) (outcome-same s h not)
+  reads-sources (Selp s c) h = choice-same s (p c) selpOf h
+  reads-sources (Slct ctype s c) h = choice-same s (r c) (slctOf ctype) h
+
+  pub guard-reads-sources : (e : Guard) → Agree f g (guardSources e) → guardHolds (f .preds) e ≡ guardHolds (g .preds) e
+  unfolding guardHolds
+  guard-reads-sources Always h = refl
+  guard-reads-sources (When c) h = condition-same c (h (p (c .pred)) (here refl))
+
+-- ==== each destination holds its value
+
+-- no place twice
+abbrev Distinct : List Place → Type 0
+Distinct [] = Unit {0}
+Distinct (q ∷ qs) = (Listed q qs → ⊥) × Distinct qs
+
+-- files of 64, 32 and 16 places
+record Sized (f : Files) : Type 0 where
+  words : length (f .words) ≡ wordCount
+  doubles : length (f .doubles) ≡ doubleCount
+  preds : length (f .preds) ≡ predCount
+
+sized : (f : Files) → sizesFit f ≡ true → Sized f
+unfolding sizesFit
+sized f e =
+    let k = simp and-eq-true-iff at e in
+    record { words = eqb-true _ _ (k .0 .0); doubles = eqb-true _ _ (k .0 .1); preds = eqb-true _ _ (k .1) }
+
+put-sized : (q : Place) (v : ℕ) (f : Files) → Sized f → Sized (put q v f)
+put-sized q v f s =
+    let k = put-lengths q v f in
+    record { words = k .words ∙ s .words; doubles = k .doubles ∙ s .doubles; preds = k .preds ∙ s .preds }
+
+put-same : (q : Place) (v : ℕ) (f : Files) → Sized f → Inside q → at (put q v f) q ≡ v
+put-same (word n) v f s h = getD-set-same (f .words) n v 0 (rw (s .words) h)
+put-same (double n) v f s h = getD-set-same (f .doubles) n v 0 (rw (s .doubles) h)
+put-same (pred n) v f s h = getD-set-same (f .preds) n v 0 (rw (s .preds) h)
+
+put-all-holds : (ws : List Write) (f : Files) → Sized f → Distinct (placesOf ws) → ((q : Place) → Listed q (placesOf ws) → Inside q)
+    → (w : Write) → Listed w ws → at (putAll ws f) (w .place) ≡ w .value
+put-all-holds (v ∷ ws) f s d h w (here e) =
+    rw e (put-all-other (v .place) ws (put (v .place) (v .value) f) (d .0) ∙ put-same (v .place) (v .value) f s (h (v .place) (here refl)))
+put-all-holds (v ∷ ws) f s d h w (later e) =
+    put-all-holds ws (put (v .place) (v .value) f) (put-sized (v .place) (v .value) f s) (d .1) (λ q k. h q (later k)) w e
+
+none-listed : {q : Place} (qs : List Place) → qs ≡ [] → Listed q qs → ⊥
+none-listed (s ∷ qs) z (here e) = let y : _≡_ {A = ℕ} 0 1 = cc in omega arith
+none-listed (s ∷ qs) z (later e) = let y : _≡_ {A = ℕ} 0 1 = cc in omega arith
+
+one-place : (q : Place) → Distinct (q ∷ [])
+one-place q = (none-listed [] refl, tt)
+
+two-places : (a b : ℕ) → not (eqb a b) ≡ true → Distinct (pred a ∷ pred b ∷ [])
+two-places a b e = (once (pred b ∷ []) refl, one-place (pred b))
+  where
+    once : (qs : List Place) → qs ≡ pred b ∷ [] → Listed (pred a) qs → ⊥
+    once (s ∷ qs) z (here k) =
+        let y : a ≡ b = cc in
+        let t : not (eqb a b) ≡ false = rw (eq-eqb a b y) in
+        let u : true ≡ false = sym e ∙ t in
+        let v : _≡_ {A = ℕ} 0 1 = cc in
+        omega arith
+    once (s ∷ qs) z (later k) =
+        let y : qs ≡ [] = cc in
+        none-listed qs y k
+
+destination-distinct : (d : Destination) → destinationApart d ≡ true → Distinct (destinationPlaces d)
+destination-distinct (One a) e = one-place (p a)
+destination-distinct (Pair a b) e = two-places (a .0) (b .0) e
+destination-distinct (First a) e = one-place (p a)
+destination-distinct (Second b) e = one-place (p b)
+
+-- both places of a legal pair are two
+distinct : (i : Instruction) → instructionApart i ≡ true → Distinct (destinations i)
+distinct (Arithmetic op dtype sat s) e = one-place (r (formD (s .form)))
+distinct (Vset cmp s) e = one-place (r (formD (s .form)))
+distinct (VsetLanes cmp l) e = one-place (r (l .d))
+distinct (ArithmeticLanes op dtype sat l) e = one-place (r (l .d))
+distinct (Set dtype d s) e = one-place (r d)
+distinct (Setp d s) e = destination-distinct d e
+distinct (Selp s c) e = one-place (operandPlace (s .d))
+distinct (Slct ctype s c) e = one-place (operandPlace (s .d))
+
+among-front : (xs ys : List Place) {q : Place} → Listed q xs → Listed q (xs ++ ys)
+among-front (x ∷ xs) ys (here e) = here e
+among-front (x ∷ xs) ys (later e) = later (among-front xs ys e)
+
+among-behind : (xs ys : List Place) {q : Place} → Listed q ys → Listed q (xs ++ ys)
+among-behind [] ys e = e
+among-behind (x ∷ xs) ys e = later (among-behind xs ys e)
+
+destinations-inside : (x : Record) → Legal x → (q : Place) → Listed q (destinations (x .instruction)) → Inside q
+destinations-inside x h q e =
+    legal-inside x h q (among-behind (guardSources (x .guard)) _ (among-front (destinations (x .instruction)) (sources (x .instruction)) e))
+
+module _ (x : Record) (f : Files) (legal : Legal x) (admitted : Admitted f) (guard : guardHolds (f .preds) (x .guard) ≡ true) where
+  -- what is written is there afterwards, in every destination
+  pub holds-written : (w : Write) → Listed w (writes (x .instruction) f) → at (run x f .files) (w .place) ≡ w .value
+  unfolding after
+  holds-written w e =
+      rw (executes x f legal admitted guard)
+      (put-all-holds (writes (x .instruction) f) f (sized f (admitted .sizes))
+      (subst Distinct (sym (writes-destinations (x .instruction) f)) (distinct (x .instruction) (legal-parts x legal .3)))
+      (λ q k. destinations-inside x legal q (subst (Listed q) (writes-destinations (x .instruction) f) k)) w e)
+
+  -- ---- vset2 and vset4, lane by lane
+
+  -- what the registers a, b and c of the forms with 2 and 4 held before
+  abbrev a-of : Lanes → ℕ
+  a-of l = at f (r (l .a))
+
+  abbrev b-of : Lanes → ℕ
+  b-of l = at f (r (l .b))
+
+  abbrev c-of : Lanes → ℕ
+  c-of l = at f (r (l .c))
+
+  module _ (cmp : Cmp6) (l : Lanes) (is : x .instruction ≡ VsetLanes cmp l) where
+    pub vset-lanes-hold : at (run x f .files) (r (l .d)) ≡ lanesOf cmp l (a-of l) (b-of l) (c-of l)
+    unfolding writes
+    vset-lanes-hold = holds-written (write (r (l .d)) (lanesOf cmp l (a-of l) (b-of l) (c-of l))) (rw is (here refl))
+
+    -- a masked lane gets 1 or 0 as its comparison holds
+    pub masked-lane : l .add ≡ false → (i : ℕ) → i < lanes (l .width) → maskAt (l .mask) i ≡ true
+        → partAt (laneSize (l .width)) (at (run x f .files) (r (l .d))) i ≡ bit (laneHolds cmp l (a-of l) (b-of l) i)
+    masked-lane plain i h m = rw vset-lanes-hold (masked-gets-bit cmp l (a-of l) (b-of l) (c-of l) plain i h m)
+
+    -- a lane that the mask does not name keeps c's part
+    pub unmasked-lane : l .add ≡ false → (i : ℕ) → i < lanes (l .width) → maskAt (l .mask) i ≡ false
+        → partAt (laneSize (l .width)) (at (run x f .files) (r (l .d))) i ≡ partAt (laneSize (l .width)) (c-of l) i
+    unmasked-lane plain i h m = rw vset-lanes-hold (unmasked-keeps-c cmp l (a-of l) (b-of l) (c-of l) plain i h m)
+
+    -- with `add`, d is c plus the number of masked lanes that hold, modulo 2^32
+    pub add-counted : l .add ≡ true
+        → at (run x f .files) (r (l .d)) ≡ (c-of l + count (lanes (l .width)) (λ i. maskAt (l .mask) i && laneHolds cmp l (a-of l) (b-of l) i)) % wordSize
+    add-counted e = rw vset-lanes-hold (add-counts cmp l (a-of l) (b-of l) (c-of l) e)
+
+  -- ---- the twelve of T-01, lane by lane
+
+  module _ (op : LaneArith) (dtype : VideoType) (sat : Bool) (l : Lanes) (is : x .instruction ≡ ArithmeticLanes op dtype sat l) where
+    pub lanes-hold : at (run x f .files) (r (l .d)) ≡ arithmeticLanesOf op dtype sat l (a-of l) (b-of l) (c-of l)
+    unfolding writes
+    lanes-hold = holds-written (write (r (l .d)) (arithmeticLanesOf op dtype sat l (a-of l) (b-of l) (c-of l))) (rw is (here refl))
+
+    -- a masked lane gets the low bits of its result
+    pub masked-result : l .add ≡ false → (i : ℕ) → i < lanes (l .width) → maskAt (l .mask) i ≡ true
+        → partAt (laneSize (l .width)) (at (run x f .files) (r (l .d))) i ≡ lowOf (laneSize (l .width)) (laneResult op dtype sat l (a-of l) (b-of l) i)
+    masked-result plain i h m = rw lanes-hold (masked-gets-low op dtype sat l (a-of l) (b-of l) (c-of l) plain i h m)
+
+    -- a lane that the mask does not name keeps c's part
+    pub unmasked-result : l .add ≡ false → (i : ℕ) → i < lanes (l .width) → maskAt (l .mask) i ≡ false
+        → partAt (laneSize (l .width)) (at (run x f .files) (r (l .d))) i ≡ partAt (laneSize (l .width)) (c-of l) i
+    unmasked-result plain i h m = rw lanes-hold (unmasked-keeps-lane op dtype sat l (a-of l) (b-of l) (c-of l) plain i h m)
+
+    -- with `add`, d is c plus the exact results of the masked lanes, modulo 2^32
+    pub add-summed : l .add ≡ true
+        → at (run x f .files) (r (l .d))
+        ≡ lowOf wordSize (pos (c-of l) +ℤ sumZ (lanes (l .width)) (λ i. cond (maskAt (l .mask) i) (laneResult op dtype sat l (a-of l) (b-of l) i) (pos 0)))
+    add-summed e = rw lanes-hold (add-sums op dtype sat l (a-of l) (b-of l) (c-of l) e)
+
+  -- ---- setp's two places, from the predicates before either is written
+
+  module _ (a b : Pred) (s : Comparison) (is : x .instruction ≡ Setp (Pair a b) s) where
+    -- BoolOp(t, c)
+    pub first-place : at (run x f .files) (p a) ≡ bit (combinedOf (f .preds) (s .combination) (testOf (f .words) (f .doubles) s))
+    unfolding writes
+    first-place = holds-written (write (p a) (bit (combinedOf (f .preds) (s .combination) (testOf (f .words) (f .doubles) s)))) (rw is (here refl))
+
+    -- BoolOp(not t, c), also where c is the first place
+    pub second-place : at (run x f .files) (p b) ≡ bit (combinedOf (f .preds) (s .combination) (not (testOf (f .words) (f .doubles) s)))
+    unfolding writes
+    second-place =
+        holds-written (write (p b) (bit (combinedOf (f .preds) (s .combination) (not (testOf (f .words) (f .doubles) s))))) (rw is (later (here refl)))

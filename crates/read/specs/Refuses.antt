@@ -1,0 +1,25 @@
+-- What the reader finds of a line: each refusal stands on what the stages before it found. No one has to believe it: Answering.antt joins it to
+-- `Answers`, which says each refusal of the line alone.
+use Prim.Native.Nat.{ℕ, _≤_, _<_}
+use mathlib.Core.Path.{_≡_}
+use mathlib.Core.Bool.{true, false}
+use mathlib.Core.List.{List}
+use lib.ListN.{length}
+use Rattle.record.specs.Refusals.{numbersInRange, pairApart, Legal}
+use Rattle.record.specs.declared.Instruction.{Instruction}
+use Rattle.record.specs.declared.Record.{Record}
+use Rattle.rules.specs.Grammar.{LineTree, Shaped}
+use Rattle.rules.specs.Reading.{lineLimit, opcodes, Listed, Row, Fits, Relates, Answer, read, refused}
+
+pub data Refuses (l : List ℕ) : ℕ → Type 0 where
+  over-160 : lineLimit < length l → Refuses l 1
+  no-shape : length l ≤ lineLimit → ((t : LineTree) → Shaped l t → ⊥) → Refuses l 2
+  no-opcode : length l ≤ lineLimit → (t : LineTree) → Shaped l t → (Listed (t .opcode) opcodes → ⊥) → Refuses l 3
+  no-row : length l ≤ lineLimit → (t : LineTree) → Shaped l t → Listed (t .opcode) opcodes → ((i : Instruction) → Row t i → ⊥) → Refuses l 4
+  no-fit : length l ≤ lineLimit → (t : LineTree) → Shaped l t → (i : Instruction) → Row t i → ((m : Record) → Fits t m → ⊥) → Refuses l 5
+  out-of-file : length l ≤ lineLimit → (t : LineTree) → Shaped l t → (m : Record) → Fits t m → numbersInRange m ≡ false → Refuses l 6
+  same-pair : length l ≤ lineLimit → (t : LineTree) → Shaped l t → (m : Record) → Fits t m → numbersInRange m ≡ true → pairApart m ≡ false → Refuses l 7
+
+pub data Decides (l : List ℕ) : Answer → Type 0 where
+  decides-read : (m : Record) → Relates l m → Legal m → Decides l (read m)
+  decides-refused : {n : ℕ} → Refuses l n → Decides l (refused n)
