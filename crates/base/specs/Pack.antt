@@ -55,7 +55,7 @@ pub record CodeOf (x : ℕ) (w : List ℕ) : Type 0 where
   pub short : isShortName w ≡ true
 
 -- x is the number of the text w, which has at most k bytes
-pub record Spells (k x : ℕ) (w : List ℕ) : Type 0 where
+pub record NumberSpells (k x : ℕ) (w : List ℕ) : Type 0 where
   pub few : k ≤ longestName
   pub code : x ≡ pack w
   pub small : x < radix ^ k

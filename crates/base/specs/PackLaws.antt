@@ -11,7 +11,7 @@ use borrow.Author.Tests.{le-leb, leb-true, ltb-true, ne-eqb}
 use Rattle.signs.specs.Bytes.{isNameByte, All, Some}
 use Rattle.signs.specs.Bytes.All.{none, more}
 use Rattle.base.specs.Values.{every}
-use Rattle.base.specs.Pack.{radix, pack, longestName, codeOf, unpackIn, unpacked, isPlain, isShortName, Spells}
+use Rattle.base.specs.Pack.{radix, pack, longestName, codeOf, unpackIn, unpacked, isPlain, isShortName, NumberSpells}
 
 -- ==== the names of the reader: a name that is kept as the number of a short name is that name
 
@@ -115,57 +115,57 @@ unpacked-pack : (w : List ℕ) → every isPlain w ≡ true → pack w < radix ^
 unfolding unpacked
 unpacked-pack w e h = back-in 10 w e h
 
-under : {k x : ℕ} {w : List ℕ} → Spells k x w → x < radix ^ 9
+under : {k x : ℕ} {w : List ℕ} → NumberSpells k x w → x < radix ^ 9
 under {k} {x} {w} s =
     let e : radix ^ k ≤ radix ^ 9 = pow-le-pow-right {n = radix} (omega arith) (s .few) in
     omega (arith, s .small)
 
-pub text-of : {k x : ℕ} {w : List ℕ} → Spells k x w → unpacked x ≡ w
+pub text-of : {k x : ℕ} {w : List ℕ} → NumberSpells k x w → unpacked x ≡ w
 text-of {k} {x} {w} s = let h = under s in rw (s .code) (unpacked-pack w (s .plain) (rw (s .code) at (let i : x < radix ^ 10 = omega arith in i)))
 
 -- a text has one number, and a number one text
-pub spells-one : {j k x y : ℕ} {w : List ℕ} → Spells j x w → Spells k y w → x ≡ y
+pub spells-one : {j k x y : ℕ} {w : List ℕ} → NumberSpells j x w → NumberSpells k y w → x ≡ y
 spells-one s t = s .code ∙ sym (t .code)
 
-pub spelled-one : {j k x : ℕ} {v w : List ℕ} → Spells j x v → Spells k x w → v ≡ w
+pub spelled-one : {j k x : ℕ} {v w : List ℕ} → NumberSpells j x v → NumberSpells k x w → v ≡ w
 spelled-one s t = sym (text-of s) ∙ text-of t
 
 -- ==== longer texts
 
 -- one byte before it
 module _ {k x : ℕ} {w : List ℕ} (b : ℕ) (e : isPlain b ≡ true) where
-  whole : Spells k x w → every isPlain (b ∷ w) ≡ true
+  whole : NumberSpells k x w → every isPlain (b ∷ w) ≡ true
   whole s = rw e (s .plain)
 
-  coded : Spells k x w → b + radix * x ≡ pack (b ∷ w)
+  coded : NumberSpells k x w → b + radix * x ≡ pack (b ∷ w)
   coded s = rw (mod-eq-of-lt (plain-first b w (whole s) .1), s .code) refl
 
-  pub spells-more : suc k ≤ longestName → Spells k x w → Spells (suc k) (b + radix * x) (b ∷ w)
+  pub spells-more : suc k ≤ longestName → NumberSpells k x w → NumberSpells (suc k) (b + radix * x) (b ∷ w)
   spells-more h s =
       let q = plain-first b w (whole s) in
       record { few = h; code = coded s; small = rw (pow-suc radix k) (omega (arith, s .small)); plain = whole s }
 
   -- a tenth byte too gives the text back
-  pub text-more : Spells k x w → unpacked (b + radix * x) ≡ b ∷ w
+  pub text-more : NumberSpells k x w → unpacked (b + radix * x) ≡ b ∷ w
   text-more s =
       let h = under s in
       let q = plain-first b w (whole s) in
       rw (coded s) (unpacked-pack (b ∷ w) (whole s) (rw (coded s) at (let i : b + radix * x < radix ^ 10 = omega arith in i)))
 
 -- with room to spare
-pub wider : {k x : ℕ} {w : List ℕ} (m : ℕ) → k ≤ m → m ≤ longestName → Spells k x w → Spells m x w
+pub wider : {k x : ℕ} {w : List ℕ} (m : ℕ) → k ≤ m → m ≤ longestName → NumberSpells k x w → NumberSpells m x w
 wider {k} {x} {w} m h l s =
     let e : radix ^ k ≤ radix ^ m = pow-le-pow-right {n = radix} (omega arith) h in
     record { few = l; code = s .code; small = omega (arith, s .small); plain = s .plain }
 
 -- one byte, if it is wanted
-pub spells-maybe : {k x y : ℕ} {w : List ℕ} (t : Bool) (b : ℕ) → isPlain b ≡ true → suc k ≤ longestName → y ≡ cond t (b + radix * x) x → Spells k x w
-    → Spells (suc k) y (cond t (b ∷ []) [] ++ w)
+pub spells-maybe : {k x y : ℕ} {w : List ℕ} (t : Bool) (b : ℕ) → isPlain b ≡ true → suc k ≤ longestName → y ≡ cond t (b + radix * x) x → NumberSpells k x w
+    → NumberSpells (suc k) y (cond t (b ∷ []) [] ++ w)
 spells-maybe true b e h q s = rw q (spells-more b e h s)
 spells-maybe {k} {x} {y} {w} false b e h q s = rw q (wider (suc k) (omega arith) h s)
 
 -- a text that is written out: its test is computed
-pub written : (k : ℕ) (w : List ℕ) → leb k longestName && (ltb (pack w) (radix ^ k) && every isPlain w) ≡ true → Spells k (pack w) w
-written k w e =
+pub spells-written : (k : ℕ) (w : List ℕ) → leb k longestName && (ltb (pack w) (radix ^ k) && every isPlain w) ≡ true → NumberSpells k (pack w) w
+spells-written k w e =
     let q = simp and-eq-true-iff at e in
     record { few = leb-true k longestName (q .0); code = refl; small = ltb-true (pack w) (radix ^ k) (q .1 .0); plain = q .1 .1 }

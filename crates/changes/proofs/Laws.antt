@@ -14,13 +14,11 @@ use Rattle.signs.specs.Lists.{tab}
 use Rattle.signs.specs.Text.{bytes}
 use Rattle.record.specs.Registers.{wordCount, doubleCount, predCount, Files, at}
 use Rattle.rules.specs.Shape.{digit, numberText, registerText}
-use Rattle.rules.specs.Writing.{outcome}
 use Rattle.text.specs.Buffer.{Buffer, buffer, filled, Puts, whole-front}
 use Rattle.text.specs.Digits.{decimal, one-digit, more-digits, hex, hex-length}
 use Rattle.signs.specs.Bytes.{lineFeed}
 use Rattle.changes.specs.Changes.{startValue, digitsOf, valueText, changeText, changesText, registersText}
-use Rattle.changes.specs.Registers.{placeOf, countOf, prefixOf, valueRoom, registersRoom, printed, printing}
-use Rattle.changes.specs.Registers as registers
+use Rattle.changes.specs.Registers.{placeOf, countOf, prefixOf, valueRoom, registersRoom, printed-bytes, printOutcome, printing}
 use Rattle.record.specs.declared.File.{File}
 use Rattle.record.specs.declared.File.the-variants.{Words, Doubles, Preds}
 
@@ -97,11 +95,11 @@ registers-short f =
     (omega (arith, changes-short Words wordCount f (omega arith), changes-short Doubles doubleCount f (omega arith), changes-short Preds predCount f (omega arith)))
 
 pub registers-printed : (f : Files) {out after : List ℕ} {n : ℕ} → registersRoom ≤ length out → Puts (buffer out 0) (registersText f) (buffer after n)
-    → registers.outcome (printed n) after ≡ printing f out
+    → printOutcome (printed-bytes n) after ≡ printing f out
 unfolding printing
 registers-printed f {out} {after} {n} h p =
     let w = whole-front p (omega (arith, registers-short f)) in
-    rw (le-ltb (length out) registersRoom h) (ap₂ (λ (m : ℕ) (l : List ℕ). registers.outcome (printed m) l) (w .0) (w .1))
+    rw (le-ltb (length out) registersRoom h) (ap₂ (λ (m : ℕ) (l : List ℕ). printOutcome (printed-bytes m) l) (w .0) (w .1))
 
 -- ==== the registers at the start
 

@@ -36,23 +36,23 @@ valueRoom = 23
 abbrev pub registersRoom : ℕ
 registersRoom = (wordCount + doubleCount + predCount) * valueRoom
 
-pub data Answer : Type 0 where
-  printed : ℕ → Answer
-  no-room : Answer
+pub data PrintAnswer : Type 0 where
+  printed-bytes : ℕ → PrintAnswer
+  no-room : PrintAnswer
 
-pub record Outcome : Type 0 where
-  pub answer : Answer
+pub record PrintOutcome : Type 0 where
+  pub answer : PrintAnswer
   pub buffer : List ℕ
 
-abbrev pub outcome : Answer → List ℕ → Outcome
-outcome a b = record { answer = a; buffer = b }
+abbrev pub printOutcome : PrintAnswer → List ℕ → PrintOutcome
+printOutcome a b = record { answer = a; buffer = b }
 
 -- a buffer that may be too short is left as it was; else the text stands at its front, and behind it all is as it was
-unfoldable pub printing : Files → List ℕ → Outcome
-printing f out = cond (ltb (length out) registersRoom) (outcome no-room out) (outcome (printed (length (registersText f))) (front (registersText f) out))
+unfoldable pub printing : Files → List ℕ → PrintOutcome
+printing f out = cond (ltb (length out) registersRoom) (printOutcome no-room out) (printOutcome (printed-bytes (length (registersText f))) (front (registersText f) out))
 
-abbrev pub answerOf : Printed → Answer
-answerOf (Length n) = printed n
+abbrev pub answerOf : Printed → PrintAnswer
+answerOf (Length n) = printed-bytes n
 answerOf NoRoom = no-room
 
 -- one to one: no two answers say the same

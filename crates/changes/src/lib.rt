@@ -9,7 +9,7 @@ ghost use Rattle.record.specs.Registers.{wordCount, word, files};
 ghost use Rattle.record.specs.Registers as held;
 ghost use Rattle.text.specs.Buffer.{buffer, Puts};
 ghost use Rattle.changes.specs.Changes.{startValue, startFiles, digitsOf, valueText, changeText, changesText};
-ghost use Rattle.changes.specs.Registers.{placeOf, countOf, prefixOf, answerOf, outcome, printing};
+ghost use Rattle.changes.specs.Registers.{placeOf, countOf, prefixOf, answerOf, printOutcome, printing};
 
 // As many bytes as the texts of all registers have at most.
 const REGISTERS_ROOM: usize = 2576;
@@ -166,7 +166,7 @@ fn put_file(
 
 // The registers whose value differs from the start.
 pub fn registers(words: &[u32], doubles: &[u64], preds: &[u8], out: &mut [u8]) -> Printed
-    ensures { λ m. ⌜ outcome (answerOf m) (now (out .exit)) ≡ printing (files (now (words .entry)) (now (doubles .entry)) (now (preds .entry))) (now (out .entry)) ⌝ }
+    ensures { λ m. ⌜ printOutcome (answerOf m) (now (out .exit)) ≡ printing (files (now (words .entry)) (now (doubles .entry)) (now (preds .entry))) (now (out .entry)) ⌝ }
 {
     if out.len() < REGISTERS_ROOM {
         return Printed::NoRoom;

@@ -41,7 +41,7 @@ use Rattle.rules.specs.Reading.{OneOf, as-standard, as-written, Spelled, none, 
 use Rattle.tree.specs.Seen.{seenOperand, seenOperands}
 use Rattle.tree.specs.Blank.{blank, blankScalar, blankLanes, blankComparison, blankChoice}
 use Rattle.kinds.specs.Registers.{bareOperand, conditionOf, destinationOf}
-use Rattle.fills.specs.Fills.{treeAt, selectedOf, scalarOf, maskedOf, lanedOf, lanesOf, comparisonOf, choiceOf, filledOf}
+use Rattle.fills.specs.Fills.{treeAt, selectedFrom, scalarFrom, maskedFrom, lanedFrom, lanesFrom, comparisonFrom, choiceFrom, filledOf}
 use Rattle.names.specs.Back.{selector-complete}
 use Rattle.masks.specs.MaskLaws.{both, mask-complete, digits-complete}
 use Rattle.kinds.specs.declared.OperandFound
@@ -85,7 +85,7 @@ destination-complete (Pair p q) = refl
 destination-complete (First p) = refl
 destination-complete (Second q) = refl
 
-selected-complete : (s : Selected) → selectedOf (seenOperand (selectedTree s)) ≡ SelectedFound.Is s
+selected-complete : (s : Selected) → selectedFrom (seenOperand (selectedTree s)) ≡ SelectedFound.Is s
 selected-complete (Whole w) = refl
 selected-complete (Part w sel) = rw (selector-complete sel)
 
@@ -112,30 +112,30 @@ same-digits s t e =
     rw (← eqb-true (s .lane0) (t .lane0) (w .0), ← eqb-true (s .lane1) (t .lane1) (w .1), ← eqb-true (s .lane2) (t .lane2) (v .1), ← eqb-true (s .lane3) (t .lane3) (u .1))
 
 module _ (w : LaneWidth) (d : Word) (m : Mask) (fit : maskFits w m ≡ true) where
-  mask-written : maskedOf w (seenOperand (part (r d) (maskName w m))) ≡ MaskedFound.Is (record { word = d; mask = m })
+  mask-written : maskedFrom w (seenOperand (part (r d) (maskName w m))) ≡ MaskedFound.Is (record { word = d; mask = m })
   mask-written = rw (mask-complete w m fit)
 
   mask-standing : (t : Bool) → sameMask m (fullMask w) ≡ t
-      → maskedOf w (seenOperand (cond t (bare (r d)) (part (r d) (maskName w m)))) ≡ MaskedFound.Is (record { word = d; mask = m })
+      → maskedFrom w (seenOperand (cond t (bare (r d)) (part (r d) (maskName w m)))) ≡ MaskedFound.Is (record { word = d; mask = m })
   mask-standing true e = ap (λ (n : Mask). MaskedFound.Is (record { word = d; mask = n })) (same-mask m (fullMask w) e)
   mask-standing false e = mask-written
 
-  masked-complete : (o : OperandTree) → OneOf o (maskTree w d m) (part (r d) (maskName w m)) → maskedOf w (seenOperand o) ≡ MaskedFound.Is (record { word = d; mask = m })
-  masked-complete o (as-standard e) = ap (λ (x : OperandTree). maskedOf w (seenOperand x)) e ∙ mask-standing (sameMask m (fullMask w)) refl
-  masked-complete o (as-written e) = ap (λ (x : OperandTree). maskedOf w (seenOperand x)) e ∙ mask-written
+  masked-complete : (o : OperandTree) → OneOf o (maskTree w d m) (part (r d) (maskName w m)) → maskedFrom w (seenOperand o) ≡ MaskedFound.Is (record { word = d; mask = m })
+  masked-complete o (as-standard e) = ap (λ (x : OperandTree). maskedFrom w (seenOperand x)) e ∙ mask-standing (sameMask m (fullMask w)) refl
+  masked-complete o (as-written e) = ap (λ (x : OperandTree). maskedFrom w (seenOperand x)) e ∙ mask-written
 
 module _ (w : LaneWidth) (default : Digits) (a : Word) (s : Digits) (fit : digitsFit w s ≡ true) where
-  digits-written : lanedOf w default (seenOperand (part (r a) (digitsName w s))) ≡ LanedFound.Is (record { word = a; digits = s })
+  digits-written : lanedFrom w default (seenOperand (part (r a) (digitsName w s))) ≡ LanedFound.Is (record { word = a; digits = s })
   digits-written = rw (digits-complete w s fit)
 
   digits-standing : (t : Bool) → sameDigits s default ≡ t
-      → lanedOf w default (seenOperand (cond t (bare (r a)) (part (r a) (digitsName w s)))) ≡ LanedFound.Is (record { word = a; digits = s })
+      → lanedFrom w default (seenOperand (cond t (bare (r a)) (part (r a) (digitsName w s)))) ≡ LanedFound.Is (record { word = a; digits = s })
   digits-standing true e = ap (λ (n : Digits). LanedFound.Is (record { word = a; digits = n })) (same-digits s default e)
   digits-standing false e = digits-written
 
-  laned-complete : (o : OperandTree) → OneOf o (digitsTree w default a s) (part (r a) (digitsName w s)) → lanedOf w default (seenOperand o) ≡ LanedFound.Is (record { word = a; digits = s })
-  laned-complete o (as-standard e) = ap (λ (x : OperandTree). lanedOf w default (seenOperand x)) e ∙ digits-standing (sameDigits s default) refl
-  laned-complete o (as-written e) = ap (λ (x : OperandTree). lanedOf w default (seenOperand x)) e ∙ digits-written
+  laned-complete : (o : OperandTree) → OneOf o (digitsTree w default a s) (part (r a) (digitsName w s)) → lanedFrom w default (seenOperand o) ≡ LanedFound.Is (record { word = a; digits = s })
+  laned-complete o (as-standard e) = ap (λ (x : OperandTree). lanedFrom w default (seenOperand x)) e ∙ digits-standing (sameDigits s default) refl
+  laned-complete o (as-written e) = ap (λ (x : OperandTree). lanedFrom w default (seenOperand x)) e ∙ digits-written
 
 bare-only : (o c : OperandTree) → OneOf o c c → o ≡ c
 bare-only o c (as-standard e) = e
@@ -147,36 +147,36 @@ abbrev formed : Scalar → Form → Scalar
 formed s f = record { atype = s .atype; btype = s .btype; form = f; a = s .a; b = s .b }
 
 scalar-by-form : (s : Scalar) (f : Form)
-    → scalarOf (blankScalar (formed s f)) (seenOperands (formTree f ∷ selectedTree (s .a) ∷ selectedTree (s .b) ∷ formLast f)) ≡ ScalarFound.Is (formed s f)
-unfolding scalarOf treeAt seenOperands
+    → scalarFrom (blankScalar (formed s f)) (seenOperands (formTree f ∷ selectedTree (s .a) ∷ selectedTree (s .b) ∷ formLast f)) ≡ ScalarFound.Is (formed s f)
+unfolding scalarFrom treeAt seenOperands
 scalar-by-form s (Plain d) = rw (selected-complete (s .a), selected-complete (s .b))
 scalar-by-form s (Merge d sel c) = rw (selector-complete sel, selected-complete (s .a), selected-complete (s .b))
 scalar-by-form s (Combine op d c) = rw (selected-complete (s .a), selected-complete (s .b))
 
-scalar-complete : (s : Scalar) → scalarOf (blankScalar s) (seenOperands (formTree (s .form) ∷ selectedTree (s .a) ∷ selectedTree (s .b) ∷ formLast (s .form))) ≡ ScalarFound.Is s
+scalar-complete : (s : Scalar) → scalarFrom (blankScalar s) (seenOperands (formTree (s .form) ∷ selectedTree (s .a) ∷ selectedTree (s .b) ∷ formLast (s .form))) ≡ ScalarFound.Is s
 scalar-complete s = scalar-by-form s (s .form)
 
 abbrev combined : Comparison → Combination → Comparison
 combined s k = record { cmp = s .cmp; combination = k; ftz = s .ftz; stype = s .stype; a = s .a; b = s .b }
 
 comparison-by : (d : OperandTree) (s : Comparison) (k : Combination)
-    → comparisonOf (blankComparison (combined s k)) (seenOperands (d ∷ bare (operandPlace (s .a)) ∷ bare (operandPlace (s .b)) ∷ combinationLast k)) ≡ ComparisonFound.Is (combined s k)
-unfolding comparisonOf treeAt seenOperands
+    → comparisonFrom (blankComparison (combined s k)) (seenOperands (d ∷ bare (operandPlace (s .a)) ∷ bare (operandPlace (s .b)) ∷ combinationLast k)) ≡ ComparisonFound.Is (combined s k)
+unfolding comparisonFrom treeAt seenOperands
 comparison-by d s Alone = rw (operand-complete (s .a), operand-complete (s .b))
 comparison-by d s (With op c) = rw (operand-complete (s .a), operand-complete (s .b), condition-complete c)
 
 comparison-complete : (d : OperandTree) (s : Comparison)
-    → comparisonOf (blankComparison s) (seenOperands (d ∷ bare (operandPlace (s .a)) ∷ bare (operandPlace (s .b)) ∷ combinationLast (s .combination))) ≡ ComparisonFound.Is s
+    → comparisonFrom (blankComparison s) (seenOperands (d ∷ bare (operandPlace (s .a)) ∷ bare (operandPlace (s .b)) ∷ combinationLast (s .combination))) ≡ ComparisonFound.Is s
 comparison-complete d s = comparison-by d s (s .combination)
 
 choice-complete : (s : Choice) (c : OperandTree)
-    → choiceOf (blankChoice (s .dtype)) (seenOperands (bare (operandPlace (s .d)) ∷ bare (operandPlace (s .a)) ∷ bare (operandPlace (s .b)) ∷ c ∷ [])) ≡ ChoiceFound.Is s
-unfolding choiceOf treeAt seenOperands
+    → choiceFrom (blankChoice (s .dtype)) (seenOperands (bare (operandPlace (s .d)) ∷ bare (operandPlace (s .a)) ∷ bare (operandPlace (s .b)) ∷ c ∷ [])) ≡ ChoiceFound.Is s
+unfolding choiceFrom treeAt seenOperands
 choice-complete s c = rw (operand-complete (s .d), operand-complete (s .a), operand-complete (s .b))
 
 lanes-complete : (l : Lanes) {os : List OperandTree} → Spelled os (lanesTrees l) (writtenLanes l) → lanesFit l ≡ true
-    → lanesOf (blankLanes l) (seenOperands os) ≡ LanesFound.Is l
-unfolding lanesOf treeAt seenOperands
+    → lanesFrom (blankLanes l) (seenOperands os) ≡ LanesFound.Is l
+unfolding lanesFrom treeAt seenOperands
 lanes-complete l (more {o = x} d (more {o = y} a (more {o = z} b (more {o = u} c none)))) e =
     let v = both _ _ e in
     let f = both _ _ (v .0) in

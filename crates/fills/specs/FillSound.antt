@@ -51,8 +51,8 @@ use Rattle.tree.specs.declared.Slot.{Slot}
 use Rattle.tree.specs.declared.Tree.{Tree}
 use Rattle.kinds.specs.Registers.{bareWord, barePred, bareOperand, conditionOf, destinationOf}
 use Rattle.names.specs.Back.{selectorOf}
-use Rattle.masks.specs.Masks.{maskOf, digitsOf}
-use Rattle.fills.specs.Fills.{untaken, treeAt, lastBy, partBy, selectedOf, startOf, mergeForm, combineForm, formOf, scalarEnd, scalarBy, scalarOf, maskedBy, maskedOf, lanedBy, lanedOf, lanesWith, lanesBy, lanesOf, combinationOf, comparisonBy, comparisonOf, choiceBy, choiceOf, arithmeticFrom, vsetFrom, vsetLanesFrom, arithmeticLanesFrom, setFrom, setpFrom, predLast, selpFrom, slctFrom, filledOf}
+use Rattle.masks.specs.Masks.{maskOf, digitsNamed}
+use Rattle.fills.specs.Fills.{untaken, treeAt, lastBy, partBy, selectedFrom, startFrom, mergeForm, combineForm, formFrom, scalarEnd, scalarBy, scalarFrom, maskedBy, maskedFrom, lanedBy, lanedFrom, lanesWith, lanesBy, lanesFrom, combinationFrom, comparisonBy, comparisonFrom, choiceBy, choiceFrom, arithmeticFrom, vsetFrom, vsetLanesFrom, arithmeticLanesFrom, setFrom, setpFrom, predLast, selpFrom, slctFrom, filledOf}
 use Rattle.names.specs.Back.{selector-sound}
 use Rattle.masks.specs.MaskLaws.{MaskIs, mask-sound, mask-known, DigitsIs, digits-sound, digits-known}
 use Rattle.kinds.specs.declared.WordFound
@@ -177,7 +177,7 @@ abbrev SelectedIs : OperandTree → SelectedFound → Type 0
 SelectedIs o (SelectedFound.Is s) = o ≡ selectedTree s
 SelectedIs o SelectedFound.Not = Unit {0}
 
-selected-is : (o : OperandTree) → GoodOperand o → SelectedIs o (selectedOf (seenOperand o))
+selected-is : (o : OperandTree) → GoodOperand o → SelectedIs o (selectedFrom (seenOperand o))
 selected-is (inverted q) g = tt
 selected-is (pair q s) g = tt
 selected-is (bare (word n)) g = refl
@@ -199,7 +199,7 @@ abbrev MaskedIs : LaneWidth → OperandTree → MaskedFound → Type 0
 MaskedIs w o (MaskedFound.Is m) = OneOf o (maskTree w (m .word) (m .mask)) (part (r (m .word)) (maskName w (m .mask))) × (maskFits w (m .mask) ≡ true)
 MaskedIs w o MaskedFound.Not = Unit {0}
 
-masked-is : (w : LaneWidth) (o : OperandTree) → GoodOperand o → MaskedIs w o (maskedOf w (seenOperand o))
+masked-is : (w : LaneWidth) (o : OperandTree) → GoodOperand o → MaskedIs w o (maskedFrom w (seenOperand o))
 masked-is w (inverted q) g = tt
 masked-is w (pair q s) g = tt
 masked-is Half (bare (word n)) g = (as-standard refl, refl)
@@ -224,13 +224,13 @@ same-itself : (s : Digits) → sameDigits s s ≡ true
 same-itself s =
     rw (eq-eqb (s .lane0) (s .lane0) refl, eq-eqb (s .lane1) (s .lane1) refl, eq-eqb (s .lane2) (s .lane2) refl, eq-eqb (s .lane3) (s .lane3) refl)
 
-laned-is : (w : LaneWidth) (default : Digits) → digitsFit w default ≡ true → (o : OperandTree) → GoodOperand o → LanedIs w default o (lanedOf w default (seenOperand o))
+laned-is : (w : LaneWidth) (default : Digits) → digitsFit w default ≡ true → (o : OperandTree) → GoodOperand o → LanedIs w default o (lanedFrom w default (seenOperand o))
 laned-is w s f (inverted q) g = tt
 laned-is w s f (pair q t) g = tt
 laned-is w s f (bare (word n)) g = (as-standard (rw (same-itself s)), f)
 laned-is w s f (bare (double n)) g = tt
 laned-is w s f (bare (pred n)) g = tt
-laned-is w s f (part (word n) k) g = go (digitsOf w (codeOf k)) (digits-sound w (codeOf k))
+laned-is w s f (part (word n) k) g = go (digitsNamed w (codeOf k)) (digits-sound w (codeOf k))
   where
     go : (d : DigitsFound) → DigitsIs w (codeOf k) d → LanedIs w s (part (word n) k) (lanedBy (WordFound.Is (record { 0 = n })) d)
     go (DigitsFound.Is t) e = (as-written (ap (part (word n)) (digits-known w t k (g .1) (e .0))), e .1)
@@ -320,7 +320,7 @@ StartIs f o (StartFound.Is (start.Merge d s)) = (form.Plain noWord ≡ blankForm
 StartIs f o (StartFound.Is (start.Combine op d)) = (form.Combine op noWord noWord ≡ blankForm f) × (o ≡ bare (r d))
 StartIs f o StartFound.Not = Unit {0}
 
-start-is : (f : Form) (o : OperandTree) (d : SelectedFound) → SelectedIs o d → StartIs f o (startOf f d)
+start-is : (f : Form) (o : OperandTree) (d : SelectedFound) → SelectedIs o d → StartIs f o (startFrom f d)
 start-is f o SelectedFound.Not e = tt
 start-is (form.Plain d) o (SelectedFound.Is (selected.Whole w)) e = (refl, e)
 start-is (form.Plain d) o (SelectedFound.Is (selected.Part w s)) e = (refl, e)
@@ -333,7 +333,7 @@ abbrev FormIs : List OperandTree → Form → FormFound → Type 0
 FormIs os f (FormFound.Is g) = (blankForm g ≡ blankForm f) × (os ≡ formTree g ∷ nth os 1 ∷ nth os 2 ∷ formLast g)
 FormIs os f (FormFound.Wrong k) = Unit {0}
 
-form-is : (os : List OperandTree) (f : Form) (s : Start) (c : WordFound) → StartIs f (nth os 0) (StartFound.Is s) → WordIs (nth os 3) c → FormIs os f (formOf s (length os) c)
+form-is : (os : List OperandTree) (f : Form) (s : Start) (c : WordFound) → StartIs f (nth os 0) (StartFound.Is s) → WordIs (nth os 3) c → FormIs os f (formFrom s (length os) c)
 form-is os f (start.Plain d) c e h = go (eqb (length os) 3) refl
   where
     go : (t : Bool) → eqb (length os) 3 ≡ t → FormIs os f (cond t (FormFound.Is (form.Plain d)) (FormFound.Wrong 3))
@@ -360,7 +360,7 @@ scalar-by : (os : List OperandTree) (s : Scalar) (d : StartFound) (a b : Selecte
 scalar-by os s StartFound.Not a b c e g h k = tt
 scalar-by os s (StartFound.Is d) SelectedFound.Not b c e g h k = tt
 scalar-by os s (StartFound.Is d) (SelectedFound.Is a) SelectedFound.Not c e g h k = tt
-scalar-by os s (StartFound.Is d) (SelectedFound.Is a) (SelectedFound.Is b) c e g h k = go (formOf d (length os) c) (form-is os (s .form) d c e k)
+scalar-by os s (StartFound.Is d) (SelectedFound.Is a) (SelectedFound.Is b) c e g h k = go (formFrom d (length os) c) (form-is os (s .form) d c e k)
   where
     go : (f : FormFound) → FormIs os (s .form) f → ScalarIs os s (scalarEnd s f a b)
     go (FormFound.Is f) l = (
@@ -395,7 +395,7 @@ abbrev CombinationIs : List OperandTree → Combination → CombinationFound →
 CombinationIs os k (CombinationFound.Is j) = (blankCombination j ≡ blankCombination k) × (os ≡ nth os 0 ∷ nth os 1 ∷ nth os 2 ∷ combinationLast j)
 CombinationIs os k (CombinationFound.Wrong n) = Unit {0}
 
-combination-is : (os : List OperandTree) (k : Combination) (c : ConditionFound) → ConditionIs (nth os 3) c → CombinationIs os k (combinationOf k (length os) c)
+combination-is : (os : List OperandTree) (k : Combination) (c : ConditionFound) → ConditionIs (nth os 3) c → CombinationIs os k (combinationFrom k (length os) c)
 combination-is os Alone c e = go (eqb (length os) 3) refl
   where
     go : (t : Bool) → eqb (length os) 3 ≡ t → CombinationIs os Alone (cond t (CombinationFound.Is Alone) (CombinationFound.Wrong 3))
@@ -511,20 +511,20 @@ module _ (os : List OperandTree) (good : GoodOperands os) where
   operand-at : (k : ℕ) → k < operandsKept → OperandIs (nth os k) (bareOperand (treeAt seen k))
   operand-at k h = at-place (λ (o : OperandTree) (t : Tree). OperandIs o (bareOperand t)) (λ o g. operand-is o) good k h
 
-  selected-at : (k : ℕ) → k < operandsKept → SelectedIs (nth os k) (selectedOf (treeAt seen k))
-  selected-at k h = at-place (λ (o : OperandTree) (t : Tree). SelectedIs o (selectedOf t)) selected-is good k h
+  selected-at : (k : ℕ) → k < operandsKept → SelectedIs (nth os k) (selectedFrom (treeAt seen k))
+  selected-at k h = at-place (λ (o : OperandTree) (t : Tree). SelectedIs o (selectedFrom t)) selected-is good k h
 
   last-at : LastIs os (lastBy (seen .n) (bareWord (treeAt seen 3)))
   unfolding seenOperands
   last-at = last-is os (bareWord (treeAt seen 3)) (word-at 3 (omega arith))
 
-  scalar-at : (s : Scalar) → ScalarIs os s (scalarOf s seen)
-  unfolding scalarOf seenOperands
+  scalar-at : (s : Scalar) → ScalarIs os s (scalarFrom s seen)
+  unfolding scalarFrom seenOperands
   scalar-at s =
-      let d = selectedOf (treeAt seen 0) in
-      let a = selectedOf (treeAt seen 1) in
-      let b = selectedOf (treeAt seen 2) in
-      scalar-by os s (startOf (s .form) d) a b (bareWord (treeAt seen 3))
+      let d = selectedFrom (treeAt seen 0) in
+      let a = selectedFrom (treeAt seen 1) in
+      let b = selectedFrom (treeAt seen 2) in
+      scalar-by os s (startFrom (s .form) d) a b (bareWord (treeAt seen 3))
       (start-is (s .form) (nth os 0) d (selected-at 0 (omega arith)))
       (selected-at 1 (omega arith))
       (selected-at 2 (omega arith))
@@ -533,35 +533,35 @@ module _ (os : List OperandTree) (good : GoodOperands os) where
   condition-at : ConditionIs (nth os 3) (conditionOf (treeAt seen 3))
   condition-at = at-place (λ (o : OperandTree) (t : Tree). ConditionIs o (conditionOf t)) (λ o g. condition-is o) good 3 (omega arith)
 
-  comparison-at : (s : Comparison) → ComparisonIs os s (comparisonOf s seen)
-  unfolding comparisonOf seenOperands
+  comparison-at : (s : Comparison) → ComparisonIs os s (comparisonFrom s seen)
+  unfolding comparisonFrom seenOperands
   comparison-at s =
       let c = conditionOf (treeAt seen 3) in
-      comparison-by os s (bareOperand (treeAt seen 1)) (bareOperand (treeAt seen 2)) (combinationOf (s .combination) (length os) c)
+      comparison-by os s (bareOperand (treeAt seen 1)) (bareOperand (treeAt seen 2)) (combinationFrom (s .combination) (length os) c)
       (operand-at 1 (omega arith))
       (operand-at 2 (omega arith))
       (combination-is os (s .combination) c condition-at)
 
-  choice-at : (s : Choice) → ChoiceIs os (s .dtype) (choiceOf s seen)
-  unfolding choiceOf
+  choice-at : (s : Choice) → ChoiceIs os (s .dtype) (choiceFrom s seen)
+  unfolding choiceFrom
   choice-at s =
       choice-by os (s .dtype) (bareOperand (treeAt seen 0)) (bareOperand (treeAt seen 1)) (bareOperand (treeAt seen 2))
       (operand-at 0 (omega arith))
       (operand-at 1 (omega arith))
       (operand-at 2 (omega arith))
 
-  masked-at : (w : LaneWidth) → MaskedIs w (nth os 0) (maskedOf w (treeAt seen 0))
-  masked-at w = at-place (λ (o : OperandTree) (t : Tree). MaskedIs w o (maskedOf w t)) (masked-is w) good 0 (omega arith)
+  masked-at : (w : LaneWidth) → MaskedIs w (nth os 0) (maskedFrom w (treeAt seen 0))
+  masked-at w = at-place (λ (o : OperandTree) (t : Tree). MaskedIs w o (maskedFrom w t)) (masked-is w) good 0 (omega arith)
 
   laned-at : (w : LaneWidth) (default : Digits) → digitsFit w default ≡ true → (k : ℕ) → k < operandsKept
-      → LanedIs w default (nth os k) (lanedOf w default (treeAt seen k))
-  laned-at w default f k h = at-place (λ (o : OperandTree) (t : Tree). LanedIs w default o (lanedOf w default t)) (laned-is w default f) good k h
+      → LanedIs w default (nth os k) (lanedFrom w default (treeAt seen k))
+  laned-at w default f k h = at-place (λ (o : OperandTree) (t : Tree). LanedIs w default o (lanedFrom w default t)) (laned-is w default f) good k h
 
-  lanes-at : (l : Lanes) → LanesIs os l (lanesOf l seen)
-  unfolding lanesOf
+  lanes-at : (l : Lanes) → LanesIs os l (lanesFrom l seen)
+  unfolding lanesFrom
   lanes-at l =
       let w = l .width in
-      lanes-by os l (maskedOf w (treeAt seen 0)) (lanedOf w (defaultA w) (treeAt seen 1)) (lanedOf w (defaultB w) (treeAt seen 2)) (lastBy (seen .n) (bareWord (treeAt seen 3)))
+      lanes-by os l (maskedFrom w (treeAt seen 0)) (lanedFrom w (defaultA w) (treeAt seen 1)) (lanedFrom w (defaultB w) (treeAt seen 2)) (lastBy (seen .n) (bareWord (treeAt seen 3)))
       (masked-at w)
       (laned-at w (defaultA w) (a-fits w) 1 (omega arith))
       (laned-at w (defaultB w) (b-fits w) 2 (omega arith))
@@ -579,14 +579,14 @@ module _ (os : List OperandTree) (good : GoodOperands os) where
 
   filled-is : (i : Instruction) → FilledIs os i (filledOf i seen)
   unfolding filledOf seenOperands
-  filled-is (Arithmetic op t sat s) = arithmetic-by os op t sat s (scalarOf s seen) (scalar-at s)
-  filled-is (Vset cmp s) = vset-by os cmp s (scalarOf s seen) (scalar-at s)
-  filled-is (VsetLanes cmp l) = vset-lanes-by os cmp l (lanesOf l seen) (lanes-at l)
-  filled-is (ArithmeticLanes op t sat l) = arithmetic-lanes-by os op t sat l (lanesOf l seen) (lanes-at l)
-  filled-is (Set t x s) = set-by os t x s (bareWord (treeAt seen 0)) (comparisonOf s seen) (word-at 0 (omega arith)) (comparison-at s)
-  filled-is (Setp x s) = setp-by os x s (destinationOf (treeAt seen 0)) (comparisonOf s seen) destination-at (comparison-at s)
-  filled-is (Selp s x) = selp-by os s x (choiceOf s seen) (predLast (seen .n) (barePred (treeAt seen 3))) (choice-at s) pred-last-at
-  filled-is (Slct t s x) = slct-by os t s x (choiceOf s seen) (lastBy (seen .n) (bareWord (treeAt seen 3))) (choice-at s) last-at
+  filled-is (Arithmetic op t sat s) = arithmetic-by os op t sat s (scalarFrom s seen) (scalar-at s)
+  filled-is (Vset cmp s) = vset-by os cmp s (scalarFrom s seen) (scalar-at s)
+  filled-is (VsetLanes cmp l) = vset-lanes-by os cmp l (lanesFrom l seen) (lanes-at l)
+  filled-is (ArithmeticLanes op t sat l) = arithmetic-lanes-by os op t sat l (lanesFrom l seen) (lanes-at l)
+  filled-is (Set t x s) = set-by os t x s (bareWord (treeAt seen 0)) (comparisonFrom s seen) (word-at 0 (omega arith)) (comparison-at s)
+  filled-is (Setp x s) = setp-by os x s (destinationOf (treeAt seen 0)) (comparisonFrom s seen) destination-at (comparison-at s)
+  filled-is (Selp s x) = selp-by os s x (choiceFrom s seen) (predLast (seen .n) (barePred (treeAt seen 3))) (choice-at s) pred-last-at
+  filled-is (Slct t s x) = slct-by os t s x (choiceFrom s seen) (lastBy (seen .n) (bareWord (treeAt seen 3))) (choice-at s) last-at
 
 pub fill-sound : (i j : Instruction) (os : List OperandTree) → blank i ≡ i → GoodOperands os → filledOf i (seenOperands os) ≡ Full j → OperandsSpell os j × (blank j ≡ i)
 fill-sound i j os h g e =

@@ -36,9 +36,9 @@ use Rattle.tree.specs.declared.Place.the-variants as place
 use Rattle.tree.specs.declared.Slot.{Slot}
 use Rattle.tree.specs.declared.Tree.{Tree}
 use Rattle.tree.specs.declared.Tree.the-variants as tree
-use Rattle.kinds.specs.Registers.{wordOf, bareWord, barePred, bareOperand, conditionOf, destinationOf}
+use Rattle.kinds.specs.Registers.{asWord, bareWord, barePred, bareOperand, conditionOf, destinationOf}
 use Rattle.names.specs.Back.{selectorOf}
-use Rattle.masks.specs.Masks.{maskOf, digitsOf}
+use Rattle.masks.specs.Masks.{maskOf, digitsNamed}
 use Rattle.kinds.specs.declared.WordFound
 use Rattle.kinds.specs.declared.WordFound.{WordFound}
 use Rattle.kinds.specs.declared.PredFound
@@ -110,11 +110,11 @@ partBy (WordFound.Is w) (SelectorName.Is s) = SelectedFound.Is (Part w s)
 partBy (WordFound.Is w) SelectorName.Not = SelectedFound.Not
 partBy WordFound.Not s = SelectedFound.Not
 
-abbrev pub selectedOf : Tree → SelectedFound
-selectedOf (tree.Inverted p) = SelectedFound.Not
-selectedOf (tree.Pair p q) = SelectedFound.Not
-selectedOf (tree.Bare p) = wholeBy (wordOf p)
-selectedOf (tree.Part p x) = partBy (wordOf p) (selectorOf x)
+abbrev pub selectedFrom : Tree → SelectedFound
+selectedFrom (tree.Inverted p) = SelectedFound.Not
+selectedFrom (tree.Pair p q) = SelectedFound.Not
+selectedFrom (tree.Bare p) = wholeBy (asWord p)
+selectedFrom (tree.Part p x) = partBy (asWord p) (selectorOf x)
 
 abbrev pub startPlain : Selected → StartFound
 startPlain (Whole w) = StartFound.Is (start.Plain w)
@@ -124,11 +124,11 @@ abbrev pub startCombine : Op2 → Selected → StartFound
 startCombine op (Whole w) = StartFound.Is (start.Combine op w)
 startCombine op (Part w s) = StartFound.Not
 
-abbrev pub startOf : Form → SelectedFound → StartFound
-startOf f SelectedFound.Not = StartFound.Not
-startOf (form.Plain d) (SelectedFound.Is s) = startPlain s
-startOf (form.Merge d sel c) (SelectedFound.Is s) = startPlain s
-startOf (form.Combine op d c) (SelectedFound.Is s) = startCombine op s
+abbrev pub startFrom : Form → SelectedFound → StartFound
+startFrom f SelectedFound.Not = StartFound.Not
+startFrom (form.Plain d) (SelectedFound.Is s) = startPlain s
+startFrom (form.Merge d sel c) (SelectedFound.Is s) = startPlain s
+startFrom (form.Combine op d c) (SelectedFound.Is s) = startCombine op s
 
 abbrev pub plainForm : Word → ℕ → FormFound
 plainForm d n = cond (eqb n 3) (FormFound.Is (form.Plain d)) (FormFound.Wrong 3)
@@ -141,10 +141,10 @@ abbrev pub combineForm : Op2 → Word → LastFound → FormFound
 combineForm op d (LastFound.Is c) = FormFound.Is (form.Combine op d c)
 combineForm op d (LastFound.Wrong k) = FormFound.Wrong k
 
-abbrev pub formOf : Start → ℕ → WordFound → FormFound
-formOf (start.Plain d) n c = plainForm d n
-formOf (start.Merge d s) n c = mergeForm d s (lastBy n c)
-formOf (start.Combine op d) n c = combineForm op d (lastBy n c)
+abbrev pub formFrom : Start → ℕ → WordFound → FormFound
+formFrom (start.Plain d) n c = plainForm d n
+formFrom (start.Merge d s) n c = mergeForm d s (lastBy n c)
+formFrom (start.Combine op d) n c = combineForm op d (lastBy n c)
 
 abbrev pub scalarEnd : Scalar → FormFound → Selected → Selected → ScalarFound
 scalarEnd s (FormFound.Is f) a b = ScalarFound.Is (record { atype = s .atype; btype = s .btype; form = f; a = a; b = b })
@@ -154,14 +154,14 @@ abbrev pub scalarBy : Scalar → ℕ → StartFound → SelectedFound → Select
 scalarBy s n StartFound.Not a b c = ScalarFound.Wrong 0
 scalarBy s n (StartFound.Is d) SelectedFound.Not b c = ScalarFound.Wrong 1
 scalarBy s n (StartFound.Is d) (SelectedFound.Is a) SelectedFound.Not c = ScalarFound.Wrong 2
-scalarBy s n (StartFound.Is d) (SelectedFound.Is a) (SelectedFound.Is b) c = scalarEnd s (formOf d n c) a b
+scalarBy s n (StartFound.Is d) (SelectedFound.Is a) (SelectedFound.Is b) c = scalarEnd s (formFrom d n c) a b
 
-unfoldable pub scalarOf : Scalar → Operands → ScalarFound
-scalarOf s o =
+unfoldable pub scalarFrom : Scalar → Operands → ScalarFound
+scalarFrom s o =
     scalarBy s (o .n)
-    (startOf (s .form) (selectedOf (treeAt o 0)))
-    (selectedOf (treeAt o 1))
-    (selectedOf (treeAt o 2))
+    (startFrom (s .form) (selectedFrom (treeAt o 0)))
+    (selectedFrom (treeAt o 1))
+    (selectedFrom (treeAt o 2))
     (bareWord (treeAt o 3))
 
 -- ==== the forms with 2 and 4
@@ -176,17 +176,17 @@ lanedBy (WordFound.Is w) (DigitsFound.Is s) = LanedFound.Is (record { word = w; 
 lanedBy (WordFound.Is w) DigitsFound.Not = LanedFound.Not
 lanedBy WordFound.Not s = LanedFound.Not
 
-abbrev pub maskedOf : LaneWidth → Tree → MaskedFound
-maskedOf w (tree.Inverted p) = MaskedFound.Not
-maskedOf w (tree.Pair p q) = MaskedFound.Not
-maskedOf w (tree.Bare p) = maskedBy (wordOf p) (MaskFound.Is (fullMask w))
-maskedOf w (tree.Part p x) = maskedBy (wordOf p) (maskOf w x)
+abbrev pub maskedFrom : LaneWidth → Tree → MaskedFound
+maskedFrom w (tree.Inverted p) = MaskedFound.Not
+maskedFrom w (tree.Pair p q) = MaskedFound.Not
+maskedFrom w (tree.Bare p) = maskedBy (asWord p) (MaskFound.Is (fullMask w))
+maskedFrom w (tree.Part p x) = maskedBy (asWord p) (maskOf w x)
 
-abbrev pub lanedOf : LaneWidth → Digits → Tree → LanedFound
-lanedOf w s (tree.Inverted p) = LanedFound.Not
-lanedOf w s (tree.Pair p q) = LanedFound.Not
-lanedOf w s (tree.Bare p) = lanedBy (wordOf p) (DigitsFound.Is s)
-lanedOf w s (tree.Part p x) = lanedBy (wordOf p) (digitsOf w x)
+abbrev pub lanedFrom : LaneWidth → Digits → Tree → LanedFound
+lanedFrom w s (tree.Inverted p) = LanedFound.Not
+lanedFrom w s (tree.Pair p q) = LanedFound.Not
+lanedFrom w s (tree.Bare p) = lanedBy (asWord p) (DigitsFound.Is s)
+lanedFrom w s (tree.Part p x) = lanedBy (asWord p) (digitsNamed w x)
 
 abbrev pub lanesWith : Lanes → Masked → Laned → Laned → Word → Lanes
 lanesWith l d a b c =
@@ -211,12 +211,12 @@ lanesBy l (MaskedFound.Is d) (LanedFound.Is a) LanedFound.Not c = LanesFound.Wro
 lanesBy l (MaskedFound.Is d) (LanedFound.Is a) (LanedFound.Is b) (LastFound.Is c) = LanesFound.Is (lanesWith l d a b c)
 lanesBy l (MaskedFound.Is d) (LanedFound.Is a) (LanedFound.Is b) (LastFound.Wrong k) = LanesFound.Wrong k
 
-unfoldable pub lanesOf : Lanes → Operands → LanesFound
-lanesOf l o =
+unfoldable pub lanesFrom : Lanes → Operands → LanesFound
+lanesFrom l o =
     lanesBy l
-    (maskedOf (l .width) (treeAt o 0))
-    (lanedOf (l .width) (defaultA (l .width)) (treeAt o 1))
-    (lanedOf (l .width) (defaultB (l .width)) (treeAt o 2))
+    (maskedFrom (l .width) (treeAt o 0))
+    (lanedFrom (l .width) (defaultA (l .width)) (treeAt o 1))
+    (lanedFrom (l .width) (defaultB (l .width)) (treeAt o 2))
     (lastBy (o .n) (bareWord (treeAt o 3)))
 
 -- ==== set, setp
@@ -228,9 +228,9 @@ abbrev pub withBy : BoolOp → ℕ → ConditionFound → CombinationFound
 withBy op n (ConditionFound.Is c) = cond (eqb n 4) (CombinationFound.Is (With op c)) (CombinationFound.Wrong 4)
 withBy op n ConditionFound.Not = CombinationFound.Wrong 3
 
-abbrev pub combinationOf : Combination → ℕ → ConditionFound → CombinationFound
-combinationOf Alone n c = aloneBy n
-combinationOf (With op d) n c = withBy op n c
+abbrev pub combinationFrom : Combination → ℕ → ConditionFound → CombinationFound
+combinationFrom Alone n c = aloneBy n
+combinationFrom (With op d) n c = withBy op n c
 
 abbrev pub comparisonEnd : Comparison → Operand → Operand → CombinationFound → ComparisonFound
 comparisonEnd s a b (CombinationFound.Is k) =
@@ -242,12 +242,12 @@ comparisonBy s OperandFound.Not b k = ComparisonFound.Wrong 1
 comparisonBy s (OperandFound.Is a) OperandFound.Not k = ComparisonFound.Wrong 2
 comparisonBy s (OperandFound.Is a) (OperandFound.Is b) k = comparisonEnd s a b k
 
-unfoldable pub comparisonOf : Comparison → Operands → ComparisonFound
-comparisonOf s o =
+unfoldable pub comparisonFrom : Comparison → Operands → ComparisonFound
+comparisonFrom s o =
     comparisonBy s
     (bareOperand (treeAt o 1))
     (bareOperand (treeAt o 2))
-    (combinationOf (s .combination) (o .n) (conditionOf (treeAt o 3)))
+    (combinationFrom (s .combination) (o .n) (conditionOf (treeAt o 3)))
 
 -- ==== selp, slct
 
@@ -257,8 +257,8 @@ choiceBy t (OperandFound.Is d) OperandFound.Not b = ChoiceFound.Wrong 1
 choiceBy t (OperandFound.Is d) (OperandFound.Is a) OperandFound.Not = ChoiceFound.Wrong 2
 choiceBy t (OperandFound.Is d) (OperandFound.Is a) (OperandFound.Is b) = ChoiceFound.Is (record { dtype = t; d = d; a = a; b = b })
 
-unfoldable pub choiceOf : Choice → Operands → ChoiceFound
-choiceOf s o = choiceBy (s .dtype) (bareOperand (treeAt o 0)) (bareOperand (treeAt o 1)) (bareOperand (treeAt o 2))
+unfoldable pub choiceFrom : Choice → Operands → ChoiceFound
+choiceFrom s o = choiceBy (s .dtype) (bareOperand (treeAt o 0)) (bareOperand (treeAt o 1)) (bareOperand (treeAt o 2))
 
 abbrev pub predLast : ℕ → PredFound → LastPred
 predLast n (PredFound.Is c) = cond (eqb n 4) (LastPred.Is c) (LastPred.Wrong 4)
@@ -303,11 +303,11 @@ slctFrom t (ChoiceFound.Is s) (LastFound.Wrong k) = Wrong k
 slctFrom t (ChoiceFound.Wrong k) c = Wrong k
 
 unfoldable pub filledOf : Instruction → Operands → Filled
-filledOf (Arithmetic op t sat s) o = arithmeticFrom op t sat (scalarOf s o)
-filledOf (Vset cmp s) o = vsetFrom cmp (scalarOf s o)
-filledOf (VsetLanes cmp l) o = vsetLanesFrom cmp (lanesOf l o)
-filledOf (ArithmeticLanes op t sat l) o = arithmeticLanesFrom op t sat (lanesOf l o)
-filledOf (Set t d s) o = setFrom t (bareWord (treeAt o 0)) (comparisonOf s o)
-filledOf (Setp d s) o = setpFrom (destinationOf (treeAt o 0)) (comparisonOf s o)
-filledOf (Selp s c) o = selpFrom (choiceOf s o) (predLast (o .n) (barePred (treeAt o 3)))
-filledOf (Slct t s c) o = slctFrom t (choiceOf s o) (lastBy (o .n) (bareWord (treeAt o 3)))
+filledOf (Arithmetic op t sat s) o = arithmeticFrom op t sat (scalarFrom s o)
+filledOf (Vset cmp s) o = vsetFrom cmp (scalarFrom s o)
+filledOf (VsetLanes cmp l) o = vsetLanesFrom cmp (lanesFrom l o)
+filledOf (ArithmeticLanes op t sat l) o = arithmeticLanesFrom op t sat (lanesFrom l o)
+filledOf (Set t d s) o = setFrom t (bareWord (treeAt o 0)) (comparisonFrom s o)
+filledOf (Setp d s) o = setpFrom (destinationOf (treeAt o 0)) (comparisonFrom s o)
+filledOf (Selp s c) o = selpFrom (choiceFrom s o) (predLast (o .n) (barePred (treeAt o 3)))
+filledOf (Slct t s c) o = slctFrom t (choiceFrom s o) (lastBy (o .n) (bareWord (treeAt o 3)))

@@ -36,7 +36,7 @@ use tree::Spot;
 use tree::Tree;
 ghost use mathlib.Core.Path.{_≡_};
 ghost use Rattle.kinds.specs.Registers.{bareWord, barePred, destinationOf};
-ghost use Rattle.fills.specs.Fills.{treeAt, wholeBy, partBy, selectedOf, startPlain, startCombine, startOf, lastBy, plainForm, mergeForm, combineForm, formOf, scalarBy, scalarEnd, scalarOf, maskedBy, maskedOf, lanedBy, lanedOf, lanesWith, lanesBy, lanesOf, aloneBy, withBy, combinationOf, comparisonBy, comparisonEnd, comparisonOf, choiceBy, choiceOf, arithmeticFrom, vsetFrom, vsetLanesFrom, arithmeticLanesFrom, setFrom, setpFrom, predLast, selpFrom, slctFrom, filledOf};
+ghost use Rattle.fills.specs.Fills.{treeAt, wholeBy, partBy, selectedFrom, startPlain, startCombine, startFrom, lastBy, plainForm, mergeForm, combineForm, formFrom, scalarBy, scalarEnd, scalarFrom, maskedBy, maskedFrom, lanedBy, lanedFrom, lanesWith, lanesBy, lanesFrom, aloneBy, withBy, combinationFrom, comparisonBy, comparisonEnd, comparisonFrom, choiceBy, choiceFrom, arithmeticFrom, vsetFrom, vsetLanesFrom, arithmeticLanesFrom, setFrom, setpFrom, predLast, selpFrom, slctFrom, filledOf};
 
 // The instruction with the line's operands, or the index of the first operand that is wrong.
 pub enum Filled {
@@ -118,7 +118,7 @@ fn part_by(w: WordFound, s: SelectorName) -> SelectedFound
 }
 
 fn selected_of(t: Tree) -> SelectedFound
-    ensures { λ r. ⌜ r ≡ selectedOf t ⌝ }
+    ensures { λ r. ⌜ r ≡ selectedFrom t ⌝ }
 {
     match t {
         Tree::Inverted(_) => SelectedFound::Not,
@@ -149,7 +149,7 @@ fn start_combine(op: Op2, d: Selected) -> StartFound
 }
 
 fn start_of(form: Form, d: SelectedFound) -> StartFound
-    ensures { λ r. ⌜ r ≡ startOf form d ⌝ }
+    ensures { λ r. ⌜ r ≡ startFrom form d ⌝ }
 {
     let SelectedFound::Is(s) = d else {
         return StartFound::Not;
@@ -209,7 +209,7 @@ fn combine_form(op: Op2, d: Word, last: LastFound) -> FormFound
 }
 
 fn form_of(start: Start, n: usize, c: WordFound) -> FormFound
-    ensures { λ r. ⌜ r ≡ formOf start n c ⌝ }
+    ensures { λ r. ⌜ r ≡ formFrom start n c ⌝ }
 {
     match start {
         Start::Plain(d) => plain_form(d, n),
@@ -258,7 +258,7 @@ fn scalar_by(
 }
 
 fn scalar_of(s: Scalar, o: Operands) -> ScalarFound
-    ensures { λ r. ⌜ r ≡ scalarOf s o ⌝ }
+    ensures { λ r. ⌜ r ≡ scalarFrom s o ⌝ }
 {
     let n = o.n;
     let form = s.form;
@@ -321,7 +321,7 @@ fn laned_by(w: WordFound, s: DigitsFound) -> LanedFound
 
 // d, with its mask.
 fn masked_of(w: LaneWidth, t: Tree) -> MaskedFound
-    ensures { λ r. ⌜ r ≡ maskedOf w t ⌝ }
+    ensures { λ r. ⌜ r ≡ maskedFrom w t ⌝ }
 {
     match t {
         Tree::Inverted(_) => MaskedFound::Not,
@@ -333,7 +333,7 @@ fn masked_of(w: LaneWidth, t: Tree) -> MaskedFound
 
 // a or b, with its selector.
 fn laned_of(w: LaneWidth, default: Digits, t: Tree) -> LanedFound
-    ensures { λ r. ⌜ r ≡ lanedOf w default t ⌝ }
+    ensures { λ r. ⌜ r ≡ lanedFrom w default t ⌝ }
 {
     match t {
         Tree::Inverted(_) => LanedFound::Not,
@@ -389,7 +389,7 @@ fn lanes_with(l: Lanes, d: Masked, a: Laned, b: Laned, c: Word) -> Lanes
 }
 
 fn lanes_of(l: Lanes, o: Operands) -> LanesFound
-    ensures { λ r. ⌜ r ≡ lanesOf l o ⌝ }
+    ensures { λ r. ⌜ r ≡ lanesFrom l o ⌝ }
 {
     let w = l.width;
     let d = masked_of(w, tree_at(o, 0));
@@ -433,7 +433,7 @@ fn with_by(op: BoolOp, n: usize, c: ConditionFound) -> CombinationFound
 
 // c exactly when BoolOp is present.
 fn combination_of(k: Combination, n: usize, c: ConditionFound) -> CombinationFound
-    ensures { λ r. ⌜ r ≡ combinationOf k n c ⌝ }
+    ensures { λ r. ⌜ r ≡ combinationFrom k n c ⌝ }
 {
     match k {
         Combination::Alone => alone_by(n),
@@ -477,7 +477,7 @@ fn comparison_by(
 }
 
 fn comparison_of(s: Comparison, o: Operands) -> ComparisonFound
-    ensures { λ r. ⌜ r ≡ comparisonOf s o ⌝ }
+    ensures { λ r. ⌜ r ≡ comparisonFrom s o ⌝ }
 {
     let n = o.n;
     let k = s.combination;
@@ -519,7 +519,7 @@ fn choice_by(dtype: DataType, d: OperandFound, a: OperandFound, b: OperandFound)
 }
 
 fn choice_of(s: Choice, o: Operands) -> ChoiceFound
-    ensures { λ r. ⌜ r ≡ choiceOf s o ⌝ }
+    ensures { λ r. ⌜ r ≡ choiceFrom s o ⌝ }
 {
     let t = s.dtype;
     let d = kinds::bare_operand(tree_at(o, 0));

@@ -44,7 +44,7 @@ use Rattle.heads.specs.declared.Tested.{Tested}
 use Rattle.heads.specs.declared.Found
 use Rattle.heads.specs.declared.Found.{Found}
 use Rattle.heads.specs.Tables.{slctTypeOf}
-use Rattle.heads.specs.Rows.{nameAt, past, wholeOf, scalarOf, lanesOf, comparisonOf, sidesBy, sidesAt, comparedBy, comparedOf, endingBy, endingAt, typedBy, typedOf, arithmeticBy, arithmeticFrom, arithmeticOf, vsetBy, vsetOf, lanesBy, lanesRow, laneArithmeticBy, laneArithmeticFrom, laneArithmeticOf, testAt, testedBy, testedOf, setBy, setAt, setFrom, setOf, setpBy, setpAt, setpFrom, setpOf, selpBy, selpOf, slctBy, slctAt, slctOf, readOf, foundOf, rowBy, rowOf}
+use Rattle.heads.specs.Rows.{nameAt, past, wholeOf, headScalar, headLanes, headComparison, sidesBy, sidesAt, comparedBy, headCompared, endingBy, endingAt, typedBy, typedOf, arithmeticBy, arithmeticTyped, arithmeticRow, vsetBy, vsetRow, vsetLanesBy, vsetLanesRow, laneArithmeticBy, laneArithmeticTyped, laneArithmeticRow, testAt, testedBy, testedOf, setBy, setAt, setTested, setRow, setpBy, setpAt, setpTested, setpRow, selpBy, selpRow, slctBy, slctAt, slctRow, readOf, foundOf, rowBy, rowOf}
 use Rattle.names.specs.Back.{opcodeName, opcode-complete, video-complete, set-type-complete, type-complete, six-complete, cmp-complete, bool-complete, op2-complete}
 use Rattle.heads.specs.NameLaws.{op2-none, op2-sat, Skips, type-skips, set-type-skips, ftz-bool}
 
@@ -55,27 +55,27 @@ unfolding sidesAt sidesBy
 sides-complete h i a b p q = rw (p, q, video-complete a, video-complete b)
 
 compared-complete : (op : Name) (a b : VideoType) (c : Cmp6) (ns : List Name)
-    → comparedOf (seenHead (op ∷ videoTypeName a ∷ videoTypeName b ∷ sixName c ∷ ns)) ≡ Compared.Are a b c
-unfolding comparedOf comparedBy nameAt seenHead
+    → headCompared (seenHead (op ∷ videoTypeName a ∷ videoTypeName b ∷ sixName c ∷ ns)) ≡ Compared.Are a b c
+unfolding headCompared comparedBy nameAt seenHead
 compared-complete op a b c ns = rw (sides-complete (seenHead (op ∷ videoTypeName a ∷ videoTypeName b ∷ sixName c ∷ ns)) 1 a b refl refl, six-complete c)
 
 vset-complete : (c : Cmp6) (a b : VideoType) (f : Form)
-    → vsetOf (seenHead (bytes "vset" ∷ videoTypeName a ∷ videoTypeName b ∷ sixName c ∷ formOp2 f)) ≡ Read.Is (Vset c (scalarOf a b (blankForm f)))
-unfolding vsetOf vsetBy endingAt endingBy wholeOf nameAt seenHead
+    → vsetRow (seenHead (bytes "vset" ∷ videoTypeName a ∷ videoTypeName b ∷ sixName c ∷ formOp2 f)) ≡ Read.Is (Vset c (headScalar a b (blankForm f)))
+unfolding vsetRow vsetBy endingAt endingBy wholeOf nameAt seenHead
 vset-complete c a b (Plain d) = rw (compared-complete (bytes "vset") a b c [], op2-none)
 vset-complete c a b (Merge d sel e) = rw (compared-complete (bytes "vset") a b c [], op2-none)
 vset-complete c a b (Combine op d e) = rw (compared-complete (bytes "vset") a b c (formOp2 (Combine op d e)), op2-complete op)
 
 lanes-complete : (c : Cmp6) (w : LaneWidth) (a b : VideoType) (add : Bool)
-    → lanesRow w (seenHead (lanesName w ∷ videoTypeName a ∷ videoTypeName b ∷ sixName c ∷ braced add (bytes "add"))) ≡ Read.Is (VsetLanes c (lanesOf w a b add))
-unfolding lanesRow lanesBy wholeOf nameAt seenHead codeOf
+    → vsetLanesRow w (seenHead (lanesName w ∷ videoTypeName a ∷ videoTypeName b ∷ sixName c ∷ braced add (bytes "add"))) ≡ Read.Is (VsetLanes c (headLanes w a b add))
+unfolding vsetLanesRow vsetLanesBy wholeOf nameAt seenHead codeOf
 lanes-complete c w a b true = rw (compared-complete (lanesName w) a b c (bytes "add" ∷ []))
 lanes-complete c w a b false = rw (compared-complete (lanesName w) a b c [])
 
 arithmetic-complete : (op : Arith) (d a b : VideoType) (sat : Bool) (f : Form)
-    → arithmeticOf op (seenHead (arithName op ∷ videoTypeName d ∷ videoTypeName a ∷ videoTypeName b ∷ (braced sat (bytes "sat") ++ formOp2 f)))
-    ≡ Read.Is (Arithmetic op d sat (scalarOf a b (blankForm f)))
-unfolding arithmeticOf arithmeticFrom arithmeticBy typedOf typedBy sidesAt sidesBy endingAt endingBy wholeOf nameAt seenHead
+    → arithmeticRow op (seenHead (arithName op ∷ videoTypeName d ∷ videoTypeName a ∷ videoTypeName b ∷ (braced sat (bytes "sat") ++ formOp2 f)))
+    ≡ Read.Is (Arithmetic op d sat (headScalar a b (blankForm f)))
+unfolding arithmeticRow arithmeticTyped arithmeticBy typedOf typedBy sidesAt sidesBy endingAt endingBy wholeOf nameAt seenHead
 arithmetic-complete op d a b true (Plain e) = rw (short-code (bytes "sat") refl, video-complete d, video-complete a, video-complete b, op2-none)
 arithmetic-complete op d a b true (Merge e sel g) = rw (short-code (bytes "sat") refl, video-complete d, video-complete a, video-complete b, op2-none)
 arithmetic-complete op d a b true (Combine o e g) = rw (short-code (bytes "sat") refl, video-complete d, video-complete a, video-complete b, op2-complete o)
@@ -84,10 +84,10 @@ arithmetic-complete op d a b false (Merge e sel g) = rw (video-complete d, video
 arithmetic-complete op d a b false (Combine o e g) = rw (op2-sat o, video-complete d, video-complete a, video-complete b, op2-complete o)
 
 lane-arithmetic-complete : (op : LaneArith) (w : LaneWidth) (d a b : VideoType) (sat add : Bool)
-    → laneArithmeticOf op w
+    → laneArithmeticRow op w
     (seenHead (laneArithName op w ∷ videoTypeName d ∷ videoTypeName a ∷ videoTypeName b ∷ (braced sat (bytes "sat") ++ braced add (bytes "add"))))
-    ≡ Read.Is (ArithmeticLanes op d sat (lanesOf w a b add))
-unfolding laneArithmeticOf laneArithmeticFrom laneArithmeticBy typedOf typedBy sidesAt sidesBy wholeOf nameAt seenHead codeOf
+    ≡ Read.Is (ArithmeticLanes op d sat (headLanes w a b add))
+unfolding laneArithmeticRow laneArithmeticTyped laneArithmeticBy typedOf typedBy sidesAt sidesBy wholeOf nameAt seenHead codeOf
 lane-arithmetic-complete op w d a b true true = rw (video-complete d, video-complete a, video-complete b)
 lane-arithmetic-complete op w d a b true false = rw (video-complete d, video-complete a, video-complete b)
 lane-arithmetic-complete op w d a b false true = rw (video-complete d, video-complete a, video-complete b)
@@ -113,7 +113,7 @@ tested-complete op c (With o e) false w ns h = rw (cmp-complete c, bool-complete
 
 set-at-complete : (d : SetType) (c : CmpOp) (b : Combination) (ftz : Bool) (s : DataType)
     → setAt (seenHead (bytes "set" ∷ cmpName c ∷ (combinationNames b ++ braced ftz (bytes "ftz") ++ setTypeName d ∷ typeName s ∷ []))) (testOf c b ftz)
-    ≡ Read.Is (Set d noWord (comparisonOf (testOf c b ftz) s))
+    ≡ Read.Is (Set d noWord (headComparison (testOf c b ftz) s))
 unfolding setAt setBy wholeOf nameAt seenHead
 set-at-complete d c Alone true s = rw (set-type-complete d, type-complete s)
 set-at-complete d c Alone false s = rw (set-type-complete d, type-complete s)
@@ -121,14 +121,14 @@ set-at-complete d c (With o e) true s = rw (set-type-complete d, type-complete s
 set-at-complete d c (With o e) false s = rw (set-type-complete d, type-complete s)
 
 set-complete : (d : SetType) (c : CmpOp) (b : Combination) (ftz : Bool) (s : DataType)
-    → setOf (seenHead (bytes "set" ∷ cmpName c ∷ (combinationNames b ++ braced ftz (bytes "ftz") ++ setTypeName d ∷ typeName s ∷ [])))
-    ≡ Read.Is (Set d noWord (comparisonOf (testOf c b ftz) s))
-unfolding setOf setFrom
+    → setRow (seenHead (bytes "set" ∷ cmpName c ∷ (combinationNames b ++ braced ftz (bytes "ftz") ++ setTypeName d ∷ typeName s ∷ [])))
+    ≡ Read.Is (Set d noWord (headComparison (testOf c b ftz) s))
+unfolding setRow setTested
 set-complete d c b ftz s = rw (tested-complete (bytes "set") c b ftz (setTypeName d) (typeName s ∷ []) (set-type-skips d)) (set-at-complete d c b ftz s)
 
 setp-at-complete : (c : CmpOp) (b : Combination) (ftz : Bool) (s : DataType)
     → setpAt (seenHead (bytes "setp" ∷ cmpName c ∷ (combinationNames b ++ braced ftz (bytes "ftz") ++ typeName s ∷ []))) (testOf c b ftz)
-    ≡ Read.Is (Setp (One noPred) (comparisonOf (testOf c b ftz) s))
+    ≡ Read.Is (Setp (One noPred) (headComparison (testOf c b ftz) s))
 unfolding setpAt setpBy wholeOf nameAt seenHead
 setp-at-complete c Alone true s = rw (type-complete s)
 setp-at-complete c Alone false s = rw (type-complete s)
@@ -136,24 +136,24 @@ setp-at-complete c (With o e) true s = rw (type-complete s)
 setp-at-complete c (With o e) false s = rw (type-complete s)
 
 setp-complete : (c : CmpOp) (b : Combination) (ftz : Bool) (s : DataType)
-    → setpOf (seenHead (bytes "setp" ∷ cmpName c ∷ (combinationNames b ++ braced ftz (bytes "ftz") ++ typeName s ∷ [])))
-    ≡ Read.Is (Setp (One noPred) (comparisonOf (testOf c b ftz) s))
-unfolding setpOf setpFrom
+    → setpRow (seenHead (bytes "setp" ∷ cmpName c ∷ (combinationNames b ++ braced ftz (bytes "ftz") ++ typeName s ∷ [])))
+    ≡ Read.Is (Setp (One noPred) (headComparison (testOf c b ftz) s))
+unfolding setpRow setpTested
 setp-complete c b ftz s = rw (tested-complete (bytes "setp") c b ftz (typeName s) [] (type-skips s)) (setp-at-complete c b ftz s)
 
 -- ==== selp, slct
 
-selp-complete : (t : DataType) → selpOf (seenHead (bytes "selp" ∷ typeName t ∷ [])) ≡ Read.Is (Selp (blankChoice t) noPred)
-unfolding selpOf selpBy wholeOf nameAt seenHead
+selp-complete : (t : DataType) → selpRow (seenHead (bytes "selp" ∷ typeName t ∷ [])) ≡ Read.Is (Selp (blankChoice t) noPred)
+unfolding selpRow selpBy wholeOf nameAt seenHead
 selp-complete t = rw (type-complete t)
 
-slct-s32 : (t : DataType) → slctOf (seenHead (bytes "slct" ∷ typeName t ∷ bytes "s32" ∷ [])) ≡ Read.Is (Slct SlctType.S32 (blankChoice t) noWord)
-unfolding slctOf slctAt slctBy slctTypeOf wholeOf nameAt seenHead
+slct-s32 : (t : DataType) → slctRow (seenHead (bytes "slct" ∷ typeName t ∷ bytes "s32" ∷ [])) ≡ Read.Is (Slct SlctType.S32 (blankChoice t) noWord)
+unfolding slctRow slctAt slctBy slctTypeOf wholeOf nameAt seenHead
 slct-s32 t = rw (type-skips t .ftz, short-code (bytes "s32") refl, type-complete t)
 
 slct-f32 : (ftz : Bool) (t : DataType)
-    → slctOf (seenHead (bytes "slct" ∷ (braced ftz (bytes "ftz") ++ typeName t ∷ bytes "f32" ∷ []))) ≡ Read.Is (Slct (SlctType.F32 ftz) (blankChoice t) noWord)
-unfolding slctOf slctAt slctBy slctTypeOf wholeOf nameAt seenHead
+    → slctRow (seenHead (bytes "slct" ∷ (braced ftz (bytes "ftz") ++ typeName t ∷ bytes "f32" ∷ []))) ≡ Read.Is (Slct (SlctType.F32 ftz) (blankChoice t) noWord)
+unfolding slctRow slctAt slctBy slctTypeOf wholeOf nameAt seenHead
 slct-f32 true t = rw (short-code (bytes "ftz") refl, short-code (bytes "f32") refl, type-complete t)
 slct-f32 false t = rw (type-skips t .ftz, short-code (bytes "f32") refl, type-complete t)
 

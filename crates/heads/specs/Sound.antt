@@ -68,10 +68,10 @@ use Rattle.heads.specs.declared.Tested
 use Rattle.heads.specs.declared.Tested.{Tested}
 use Rattle.heads.specs.declared.Found
 use Rattle.heads.specs.declared.Found.{Found}
-use Rattle.names.specs.Back.{opcodeOf, videoOf, setTypeOf, typeOf, sixOf, cmpOf, boolOf, op2Of}
+use Rattle.names.specs.Back.{opcodeOf, videoOf, setTypeOf, typeOf, sixOf, cmpOf, boolOpOf, op2Of}
 use Rattle.heads.specs.Tables.{slctTypeOf, satCode, ftzCode, addCode, s32Code, f32Code}
-use Rattle.heads.specs.Rows.{nameAt, past, wholeOf, scalarOf, lanesOf, comparisonOf, sidesBy, sidesAt, comparedBy, comparedOf, endingBy, endingAt, satEnd, typedBy, typedOf, arithmeticBy, arithmeticFrom, arithmeticOf, vsetBy, vsetOf, lanesBy, lanesRow, laneArithmeticBy, laneArithmeticFrom, laneArithmeticOf, testAt, testedBy, testedOf, setBy, setAt, setFrom, setOf, setpBy, setpAt, setpFrom, setpOf, selpBy, selpOf, slctBy, slctAt, slctOf, readOf, foundOf, rowBy, rowOf}
-use Rattle.names.specs.Back.{opcodeName, opcodes as known, opcode-complete, opcode-sound, video-sound, set-type-sound, type-sound, six-sound, cmp-sound, bool-sound, op2-sound}
+use Rattle.heads.specs.Rows.{nameAt, past, wholeOf, headScalar, headLanes, headComparison, sidesBy, sidesAt, comparedBy, headCompared, endingBy, endingAt, satEnd, typedBy, typedOf, arithmeticBy, arithmeticTyped, arithmeticRow, vsetBy, vsetRow, vsetLanesBy, vsetLanesRow, laneArithmeticBy, laneArithmeticTyped, laneArithmeticRow, testAt, testedBy, testedOf, setBy, setAt, setTested, setRow, setpBy, setpAt, setpTested, setpRow, selpBy, selpRow, slctBy, slctAt, slctRow, readOf, foundOf, rowBy, rowOf}
+use Rattle.names.specs.Back.{opcodeName, knownOpcodes, opcode-complete, opcode-sound, video-sound, set-type-sound, type-sound, six-sound, cmp-sound, bool-sound, op2-sound}
 
 -- ==== the names that a head keeps
 
@@ -186,8 +186,8 @@ module _ (ns : List Name) (good : GoodNames ns) where
           let v : d ≡ b = cc in
           rw (← u, ← v, name-at i (videoTypeName c) (video-sound (nameAt (seenHead ns) i) c p), name-at (i + 1) (videoTypeName d) (video-sound (nameAt (seenHead ns) (i + 1)) d q))
 
-  compared-sound : (a b : VideoType) (c : Cmp6) → comparedOf (seenHead ns) ≡ Compared.Are a b c → drop 1 ns ≡ videoTypeName a ∷ videoTypeName b ∷ sixName c ∷ drop 4 ns
-  unfolding comparedOf comparedBy
+  compared-sound : (a b : VideoType) (c : Cmp6) → headCompared (seenHead ns) ≡ Compared.Are a b c → drop 1 ns ≡ videoTypeName a ∷ videoTypeName b ∷ sixName c ∷ drop 4 ns
+  unfolding headCompared comparedBy
   compared-sound a b c e = go (sidesAt (seenHead ns) 1) refl (sixOf (nameAt (seenHead ns) 3)) refl e
     where
       go : (x : Sides) → sidesAt (seenHead ns) 1 ≡ x → (y : SixName) → sixOf (nameAt (seenHead ns) 3) ≡ y
@@ -211,26 +211,26 @@ module _ (ns : List Name) (good : GoodNames ns) where
       go (Op2Name.Is op) p e = (rw (name-at i (op2Name op) (op2-sound (nameAt (seenHead ns) i) op p), ended (i + 1) e), refl)
       go Op2Name.Not p e = (ended i e, refl)
 
-  vset-sound : (i : Instruction) → vsetOf (seenHead ns) ≡ Read.Is i → RowIs ns Opcode.Vset i
-  unfolding vsetOf vsetBy
-  vset-sound i e = go (comparedOf (seenHead ns)) refl e
+  vset-sound : (i : Instruction) → vsetRow (seenHead ns) ≡ Read.Is i → RowIs ns Opcode.Vset i
+  unfolding vsetRow vsetBy
+  vset-sound i e = go (headCompared (seenHead ns)) refl e
     where
-      go : (x : Compared) → comparedOf (seenHead ns) ≡ x → vsetBy (seenHead ns .n) x (endingAt (seenHead ns) 4) ≡ Read.Is i → RowIs ns Opcode.Vset i
+      go : (x : Compared) → headCompared (seenHead ns) ≡ x → vsetBy (seenHead ns .n) x (endingAt (seenHead ns) 4) ≡ Read.Is i → RowIs ns Opcode.Vset i
       go (Compared.Wrong k) p e = never k i e
       go (Compared.Are a b c) p e =
-          let w = whole-sound (endingAt (seenHead ns) 4 .end) (Vset c (scalarOf a b (endingAt (seenHead ns) 4 .form))) i e in
+          let w = whole-sound (endingAt (seenHead ns) 4 .end) (Vset c (headScalar a b (endingAt (seenHead ns) 4 .form))) i e in
           let f = ending-sound 4 (w .0) in
           subst (RowIs ns Opcode.Vset) (w .1) (record { names = rw (compared-sound a b c p, f .0); blank = rw (f .1) })
 
-  lanes-sound : (l : LaneWidth) (i : Instruction) → lanesRow l (seenHead ns) ≡ Read.Is i → RowIs ns (Opcode.Lanes l) i
-  unfolding lanesRow lanesBy
-  lanes-sound l i e = go (comparedOf (seenHead ns)) refl (eqb (nameAt (seenHead ns) 4) addCode) refl e
+  lanes-sound : (l : LaneWidth) (i : Instruction) → vsetLanesRow l (seenHead ns) ≡ Read.Is i → RowIs ns (Opcode.Lanes l) i
+  unfolding vsetLanesRow vsetLanesBy
+  lanes-sound l i e = go (headCompared (seenHead ns)) refl (eqb (nameAt (seenHead ns) 4) addCode) refl e
     where
-      go : (x : Compared) → comparedOf (seenHead ns) ≡ x → (add : Bool) → eqb (nameAt (seenHead ns) 4) addCode ≡ add
-          → lanesBy (seenHead ns .n) l x add ≡ Read.Is i → RowIs ns (Opcode.Lanes l) i
+      go : (x : Compared) → headCompared (seenHead ns) ≡ x → (add : Bool) → eqb (nameAt (seenHead ns) 4) addCode ≡ add
+          → vsetLanesBy (seenHead ns .n) l x add ≡ Read.Is i → RowIs ns (Opcode.Lanes l) i
       go (Compared.Wrong k) p add q e = never k i e
       go (Compared.Are a b c) p add q e =
-          let w = whole-sound (past add 4) (VsetLanes c (lanesOf l a b add)) i e in
+          let w = whole-sound (past add 4) (VsetLanes c (headLanes l a b add)) i e in
           subst (RowIs ns (Opcode.Lanes l)) (w .1) (record { names = rw (compared-sound a b c p, add-sound 4 add q (w .0)); blank = refl })
 
   typed-sound : (t : Typed) → typedOf (seenHead ns) ≡ TypedFound.Are t → TypedIs ns t
@@ -248,27 +248,27 @@ module _ (ns : List Name) (good : GoodNames ns) where
                 (ap (λ (l : List Name). videoTypeName d ∷ videoTypeName a ∷ videoTypeName b ∷ l) (optional-at 4 satCode (bytes "sat") (short-code (bytes "sat") refl) refl sat o));
           })
 
-  arithmetic-sound : (op : Arith) (i : Instruction) → arithmeticOf op (seenHead ns) ≡ Read.Is i → RowIs ns (Opcode.Scalar op) i
-  unfolding arithmeticOf arithmeticFrom arithmeticBy
+  arithmetic-sound : (op : Arith) (i : Instruction) → arithmeticRow op (seenHead ns) ≡ Read.Is i → RowIs ns (Opcode.Scalar op) i
+  unfolding arithmeticRow arithmeticTyped arithmeticBy
   arithmetic-sound op i e = go (typedOf (seenHead ns)) refl e
     where
-      go : (x : TypedFound) → typedOf (seenHead ns) ≡ x → arithmeticFrom op (seenHead ns) x ≡ Read.Is i → RowIs ns (Opcode.Scalar op) i
+      go : (x : TypedFound) → typedOf (seenHead ns) ≡ x → arithmeticTyped op (seenHead ns) x ≡ Read.Is i → RowIs ns (Opcode.Scalar op) i
       go (TypedFound.Wrong k) p e = never k i e
       go (TypedFound.Are t) p e =
           let j = endingAt (seenHead ns) (t .next) in
-          let w = whole-sound (j .end) (Arithmetic op (t .dtype) (t .sat) (scalarOf (t .atype) (t .btype) (j .form))) i e in
+          let w = whole-sound (j .end) (Arithmetic op (t .dtype) (t .sat) (headScalar (t .atype) (t .btype) (j .form))) i e in
           let f = ending-sound (t .next) (w .0) in
           subst (RowIs ns (Opcode.Scalar op)) (w .1) (record { names = rw (typed-sound t p .names, f .0); blank = rw (f .1) })
 
-  lane-arithmetic-sound : (op : LaneArith) (l : LaneWidth) (i : Instruction) → laneArithmeticOf op l (seenHead ns) ≡ Read.Is i → RowIs ns (Opcode.LaneArithmetic op l) i
-  unfolding laneArithmeticOf laneArithmeticFrom laneArithmeticBy
+  lane-arithmetic-sound : (op : LaneArith) (l : LaneWidth) (i : Instruction) → laneArithmeticRow op l (seenHead ns) ≡ Read.Is i → RowIs ns (Opcode.LaneArithmetic op l) i
+  unfolding laneArithmeticRow laneArithmeticTyped laneArithmeticBy
   lane-arithmetic-sound op l i e = go (typedOf (seenHead ns)) refl e
     where
-      go : (x : TypedFound) → typedOf (seenHead ns) ≡ x → laneArithmeticFrom op l (seenHead ns) x ≡ Read.Is i → RowIs ns (Opcode.LaneArithmetic op l) i
+      go : (x : TypedFound) → typedOf (seenHead ns) ≡ x → laneArithmeticTyped op l (seenHead ns) x ≡ Read.Is i → RowIs ns (Opcode.LaneArithmetic op l) i
       go (TypedFound.Wrong k) p e = never k i e
       go (TypedFound.Are t) p e =
           let add = eqb (nameAt (seenHead ns) (t .next)) addCode in
-          let w = whole-sound (past add (t .next)) (ArithmeticLanes op (t .dtype) (t .sat) (lanesOf l (t .atype) (t .btype) add)) i e in
+          let w = whole-sound (past add (t .next)) (ArithmeticLanes op (t .dtype) (t .sat) (headLanes l (t .atype) (t .btype) add)) i e in
           subst (RowIs ns (Opcode.LaneArithmetic op l)) (w .1) (record { names = rw (typed-sound t p .names, add-sound (t .next) add refl (w .0)); blank = refl })
 
   -- ==== set, setp
@@ -280,9 +280,9 @@ module _ (ns : List Name) (good : GoodNames ns) where
 
   tested-sound : (t : Test) → testedOf (seenHead ns) ≡ Tested.Is t → TestIs ns t
   unfolding testedOf testedBy testAt
-  tested-sound t e = go (cmpOf (nameAt (seenHead ns) 1)) refl (boolOf (nameAt (seenHead ns) 2)) refl e
+  tested-sound t e = go (cmpOf (nameAt (seenHead ns) 1)) refl (boolOpOf (nameAt (seenHead ns) 2)) refl e
     where
-      go : (x : CmpName) → cmpOf (nameAt (seenHead ns) 1) ≡ x → (y : BoolName) → boolOf (nameAt (seenHead ns) 2) ≡ y
+      go : (x : CmpName) → cmpOf (nameAt (seenHead ns) 1) ≡ x → (y : BoolName) → boolOpOf (nameAt (seenHead ns) 2) ≡ y
           → testedBy (seenHead ns) x y ≡ Tested.Is t → TestIs ns t
       go CmpName.Not p y q e = let z : _≡_ {A = ℕ} 0 1 = cc in absurd (omega arith)
       go (CmpName.Is c) p (BoolName.Is op) q e =
@@ -299,11 +299,11 @@ module _ (ns : List Name) (good : GoodNames ns) where
             blank = refl;
           })
 
-  set-sound : (i : Instruction) → setOf (seenHead ns) ≡ Read.Is i → RowIs ns Opcode.Set i
-  unfolding setOf setFrom setAt setBy
+  set-sound : (i : Instruction) → setRow (seenHead ns) ≡ Read.Is i → RowIs ns Opcode.Set i
+  unfolding setRow setTested setAt setBy
   set-sound i e = go (testedOf (seenHead ns)) refl e
     where
-      go : (x : Tested) → testedOf (seenHead ns) ≡ x → setFrom (seenHead ns) x ≡ Read.Is i → RowIs ns Opcode.Set i
+      go : (x : Tested) → testedOf (seenHead ns) ≡ x → setTested (seenHead ns) x ≡ Read.Is i → RowIs ns Opcode.Set i
       go Tested.Not p e = never 1 i e
       go (Tested.Is t) p e = types (setTypeOf (nameAt (seenHead ns) (t .next))) refl (typeOf (nameAt (seenHead ns) (t .next + 1))) refl e
         where
@@ -312,7 +312,7 @@ module _ (ns : List Name) (good : GoodNames ns) where
           types SetName.Not q y r e = never (t .next) i e
           types (SetName.Is d) q TypeName.Not r e = never (t .next + 1) i e
           types (SetName.Is d) q (TypeName.Is s) r e =
-              let w = whole-sound (t .next + 2) (Set d noWord (comparisonOf t s)) i e in
+              let w = whole-sound (t .next + 2) (Set d noWord (headComparison t s)) i e in
               let h = tested-sound t p in
               subst (RowIs ns Opcode.Set) (w .1) (record {
                 names = rw (
@@ -324,18 +324,18 @@ module _ (ns : List Name) (good : GoodNames ns) where
                 blank = rw (h .blank);
               })
 
-  setp-sound : (i : Instruction) → setpOf (seenHead ns) ≡ Read.Is i → RowIs ns Opcode.Setp i
-  unfolding setpOf setpFrom setpAt setpBy
+  setp-sound : (i : Instruction) → setpRow (seenHead ns) ≡ Read.Is i → RowIs ns Opcode.Setp i
+  unfolding setpRow setpTested setpAt setpBy
   setp-sound i e = go (testedOf (seenHead ns)) refl e
     where
-      go : (x : Tested) → testedOf (seenHead ns) ≡ x → setpFrom (seenHead ns) x ≡ Read.Is i → RowIs ns Opcode.Setp i
+      go : (x : Tested) → testedOf (seenHead ns) ≡ x → setpTested (seenHead ns) x ≡ Read.Is i → RowIs ns Opcode.Setp i
       go Tested.Not p e = never 1 i e
       go (Tested.Is t) p e = types (typeOf (nameAt (seenHead ns) (t .next))) refl e
         where
           types : (x : TypeName) → typeOf (nameAt (seenHead ns) (t .next)) ≡ x → setpBy (seenHead ns .n) t x ≡ Read.Is i → RowIs ns Opcode.Setp i
           types TypeName.Not q e = never (t .next) i e
           types (TypeName.Is s) q e =
-              let w = whole-sound (t .next + 1) (Setp (One noPred) (comparisonOf t s)) i e in
+              let w = whole-sound (t .next + 1) (Setp (One noPred) (headComparison t s)) i e in
               let h = tested-sound t p in
               subst (RowIs ns Opcode.Setp) (w .1) (record {
                 names = rw (h .names, name-at (t .next) (typeName s) (type-sound (nameAt (seenHead ns) (t .next)) s q), ended (t .next + 1) (w .0));
@@ -344,8 +344,8 @@ module _ (ns : List Name) (good : GoodNames ns) where
 
   -- ==== selp, slct
 
-  selp-sound : (i : Instruction) → selpOf (seenHead ns) ≡ Read.Is i → RowIs ns Opcode.Selp i
-  unfolding selpOf selpBy
+  selp-sound : (i : Instruction) → selpRow (seenHead ns) ≡ Read.Is i → RowIs ns Opcode.Selp i
+  unfolding selpRow selpBy
   selp-sound i e = go (typeOf (nameAt (seenHead ns) 1)) refl e
     where
       go : (x : TypeName) → typeOf (nameAt (seenHead ns) 1) ≡ x → selpBy (seenHead ns .n) x ≡ Read.Is i → RowIs ns Opcode.Selp i
@@ -381,8 +381,8 @@ module _ (ns : List Name) (good : GoodNames ns) where
           subst (RowIs ns Opcode.Slct) (w .1)
           (slct-row ftz k t c p (name-at k (typeName t) (type-sound (nameAt (seenHead ns) k) t q)) (slct-type-sound ftz (nameAt (seenHead ns) (k + 1)) c r) (w .0))
 
-  slct-sound : (i : Instruction) → slctOf (seenHead ns) ≡ Read.Is i → RowIs ns Opcode.Slct i
-  unfolding slctOf
+  slct-sound : (i : Instruction) → slctRow (seenHead ns) ≡ Read.Is i → RowIs ns Opcode.Slct i
+  unfolding slctRow
   slct-sound i e = go (eqb (nameAt (seenHead ns) 1) ftzCode) refl e
     where
       go : (ftz : Bool) → eqb (nameAt (seenHead ns) 1) ftzCode ≡ ftz → slctAt (seenHead ns) ftz (cond ftz 2 1) ≡ Read.Is i → RowIs ns Opcode.Slct i
@@ -437,11 +437,11 @@ every-opens [] = tt
 every-opens (op ∷ l) = ((op, refl), every-opens l)
 
 -- the opcodes of the document are those that the code knows, in the same order
-same-opcodes : map opcodeName (known .list) ≡ opcodes
+same-opcodes : map opcodeName (knownOpcodes .list) ≡ opcodes
 same-opcodes = refl
 
 listed-opens : (n : Name) → Listed n opcodes → Opens n
-listed-opens n l = of-listed Opens (subst (Every Opens) same-opcodes (every-opens (known .list))) l
+listed-opens n l = of-listed Opens (subst (Every Opens) same-opcodes (every-opens (knownOpcodes .list))) l
 
 listed-at : (l : List Opcode) (i : ℕ) (op : Opcode) → StandsAt i l op → Listed (opcodeName op) (map opcodeName l)
 listed-at [] i op h = absurd h
@@ -449,7 +449,7 @@ listed-at (o ∷ l) zero op h = here (ap opcodeName (sym h))
 listed-at (o ∷ l) (suc i) op h = later (listed-at l i op h)
 
 opcode-listed : (op : Opcode) → Listed (opcodeName op) opcodes
-opcode-listed op = subst (Listed (opcodeName op)) same-opcodes (listed-at (known .list) (known .listed op .0) op (known .listed op .1))
+opcode-listed op = subst (Listed (opcodeName op)) same-opcodes (listed-at (knownOpcodes .list) (knownOpcodes .listed op .0) op (knownOpcodes .listed op .1))
 
 -- the first name of every instruction is an opcode
 abbrev opcodeNamed : Instruction → Opcode

@@ -23,37 +23,37 @@ use Rattle.kinds.specs.declared.SpotFound.{SpotFound}
 use Rattle.kinds.specs.declared.DestinationFound
 use Rattle.kinds.specs.declared.DestinationFound.{DestinationFound}
 
-abbrev pub wordOf : Place → WordFound
-wordOf (place.Word w) = WordFound.Is w
-wordOf (place.Double d) = WordFound.Not
-wordOf (place.Pred q) = WordFound.Not
+abbrev pub asWord : Place → WordFound
+asWord (place.Word w) = WordFound.Is w
+asWord (place.Double d) = WordFound.Not
+asWord (place.Pred q) = WordFound.Not
 
-abbrev pub predOf : Place → PredFound
-predOf (place.Word w) = PredFound.Not
-predOf (place.Double d) = PredFound.Not
-predOf (place.Pred q) = PredFound.Is q
+abbrev pub asPred : Place → PredFound
+asPred (place.Word w) = PredFound.Not
+asPred (place.Double d) = PredFound.Not
+asPred (place.Pred q) = PredFound.Is q
 
-abbrev pub operandOf : Place → OperandFound
-operandOf (place.Word w) = OperandFound.Is (Operand.Word w)
-operandOf (place.Double d) = OperandFound.Is (Operand.Double d)
-operandOf (place.Pred q) = OperandFound.Not
+abbrev pub asOperand : Place → OperandFound
+asOperand (place.Word w) = OperandFound.Is (Operand.Word w)
+asOperand (place.Double d) = OperandFound.Is (Operand.Double d)
+asOperand (place.Pred q) = OperandFound.Not
 
 abbrev pub bareWord : Tree → WordFound
 bareWord (tree.Inverted p) = WordFound.Not
 bareWord (tree.Pair p q) = WordFound.Not
-bareWord (tree.Bare p) = wordOf p
+bareWord (tree.Bare p) = asWord p
 bareWord (tree.Part p x) = WordFound.Not
 
 abbrev pub barePred : Tree → PredFound
 barePred (tree.Inverted p) = PredFound.Not
 barePred (tree.Pair p q) = PredFound.Not
-barePred (tree.Bare p) = predOf p
+barePred (tree.Bare p) = asPred p
 barePred (tree.Part p x) = PredFound.Not
 
 abbrev pub bareOperand : Tree → OperandFound
 bareOperand (tree.Inverted p) = OperandFound.Not
 bareOperand (tree.Pair p q) = OperandFound.Not
-bareOperand (tree.Bare p) = operandOf p
+bareOperand (tree.Bare p) = asOperand p
 bareOperand (tree.Part p x) = OperandFound.Not
 
 abbrev pub conditionBy : Bool → PredFound → ConditionFound
@@ -61,9 +61,9 @@ conditionBy i (PredFound.Is q) = ConditionFound.Is (record { inverted = i; pred 
 conditionBy i PredFound.Not = ConditionFound.Not
 
 abbrev pub conditionOf : Tree → ConditionFound
-conditionOf (tree.Inverted p) = conditionBy true (predOf p)
+conditionOf (tree.Inverted p) = conditionBy true (asPred p)
 conditionOf (tree.Pair p q) = ConditionFound.Not
-conditionOf (tree.Bare p) = conditionBy false (predOf p)
+conditionOf (tree.Bare p) = conditionBy false (asPred p)
 conditionOf (tree.Part p x) = ConditionFound.Not
 
 abbrev pub spotBy : PredFound → SpotFound
@@ -71,7 +71,7 @@ spotBy (PredFound.Is q) = SpotFound.Is q
 spotBy PredFound.Not = SpotFound.Not
 
 abbrev pub spotOf : Spot → SpotFound
-spotOf (spot.At p) = spotBy (predOf p)
+spotOf (spot.At p) = spotBy (asPred p)
 spotOf spot.Nothing = SpotFound.Dropped
 
 abbrev pub pairBy : Pred → SpotFound → DestinationFound
@@ -79,14 +79,14 @@ pairBy p (SpotFound.Is q) = DestinationFound.Is (Pair p q)
 pairBy p SpotFound.Dropped = DestinationFound.Is (First p)
 pairBy p SpotFound.Not = DestinationFound.Not
 
-abbrev pub secondBy : SpotFound → DestinationFound
-secondBy (SpotFound.Is q) = DestinationFound.Is (Second q)
-secondBy SpotFound.Dropped = DestinationFound.Not
-secondBy SpotFound.Not = DestinationFound.Not
+abbrev pub secondOnlyBy : SpotFound → DestinationFound
+secondOnlyBy (SpotFound.Is q) = DestinationFound.Is (Second q)
+secondOnlyBy SpotFound.Dropped = DestinationFound.Not
+secondOnlyBy SpotFound.Not = DestinationFound.Not
 
 abbrev pub spotsBy : SpotFound → SpotFound → DestinationFound
 spotsBy (SpotFound.Is p) s = pairBy p s
-spotsBy SpotFound.Dropped s = secondBy s
+spotsBy SpotFound.Dropped s = secondOnlyBy s
 spotsBy SpotFound.Not s = DestinationFound.Not
 
 abbrev pub oneBy : PredFound → DestinationFound
@@ -96,5 +96,5 @@ oneBy PredFound.Not = DestinationFound.Not
 abbrev pub destinationOf : Tree → DestinationFound
 destinationOf (tree.Inverted p) = DestinationFound.Not
 destinationOf (tree.Pair p q) = spotsBy (spotOf p) (spotOf q)
-destinationOf (tree.Bare p) = oneBy (predOf p)
+destinationOf (tree.Bare p) = oneBy (asPred p)
 destinationOf (tree.Part p x) = DestinationFound.Not

@@ -8,7 +8,7 @@ use tree::Place;
 use tree::Spot;
 use tree::Tree;
 ghost use mathlib.Core.Path.{_≡_};
-ghost use Rattle.kinds.specs.Registers.{wordOf, predOf, operandOf, bareWord, barePred, bareOperand, conditionBy, conditionOf, spotBy, spotOf, pairBy, secondBy, spotsBy, oneBy, destinationOf};
+ghost use Rattle.kinds.specs.Registers.{asWord, asPred, asOperand, bareWord, barePred, bareOperand, conditionBy, conditionOf, spotBy, spotOf, pairBy, secondOnlyBy, spotsBy, oneBy, destinationOf};
 
 // ---- a register of the kind that the place takes
 
@@ -28,7 +28,7 @@ pub enum OperandFound {
 }
 
 pub fn word_of(p: Place) -> WordFound
-    ensures { λ r. ⌜ r ≡ wordOf p ⌝ }
+    ensures { λ r. ⌜ r ≡ asWord p ⌝ }
 {
     match p {
         Place::Word(w) => WordFound::Is(w),
@@ -38,7 +38,7 @@ pub fn word_of(p: Place) -> WordFound
 }
 
 fn pred_of(p: Place) -> PredFound
-    ensures { λ r. ⌜ r ≡ predOf p ⌝ }
+    ensures { λ r. ⌜ r ≡ asPred p ⌝ }
 {
     match p {
         Place::Word(_) => PredFound::Not,
@@ -48,7 +48,7 @@ fn pred_of(p: Place) -> PredFound
 }
 
 fn operand_of(p: Place) -> OperandFound
-    ensures { λ r. ⌜ r ≡ operandOf p ⌝ }
+    ensures { λ r. ⌜ r ≡ asOperand p ⌝ }
 {
     match p {
         Place::Word(w) => OperandFound::Is(Operand::Word(w)),
@@ -160,7 +160,7 @@ fn pair_by(p: Pred, second: SpotFound) -> DestinationFound
 
 // After `_`: another `_` is wrong.
 fn second_by(second: SpotFound) -> DestinationFound
-    ensures { λ r. ⌜ r ≡ secondBy second ⌝ }
+    ensures { λ r. ⌜ r ≡ secondOnlyBy second ⌝ }
 {
     match second {
         SpotFound::Is(q) => DestinationFound::Is(Destination::Second(q)),

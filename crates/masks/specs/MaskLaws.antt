@@ -7,7 +7,7 @@ use mathlib.Core.List.{[], _∷_}
 use lib.Dec.{eqb}
 use lib.ListN.{length, length-append}
 use borrow.Author.Tests.{le-leb, leb-true, eq-eqb, ne-eqb, eqb-true, eqb-false, not-true}
-use Rattle.base.specs.Pack.{radix, pack, longestName, codeOf, Spells}
+use Rattle.base.specs.Pack.{radix, pack, longestName, codeOf, NumberSpells}
 use Rattle.record.specs.Operands.{someLane, spareLanesFit, maskFits, digitsFit}
 use Rattle.record.specs.declared.LaneWidth.{LaneWidth}
 use Rattle.record.specs.declared.LaneWidth.the-variants.{Half, Byte}
@@ -20,7 +20,7 @@ use Rattle.rules.specs.Names.{laneLetter, maskName, digitsName}
 use Rattle.rules.specs.Grammar.{GoodName}
 use Rattle.laws.specs.StandardTree.{named, mask-named, digits-named}
 use Rattle.base.specs.PackLaws.{code-known}
-use Rattle.masks.specs.Masks.{laneDigit, noLane, naming, comesNext, leftOf, falling, maskOf, digitsIn, digitsOf}
+use Rattle.masks.specs.Masks.{laneDigit, noLane, naming, comesNext, leftOf, falling, maskOf, digitsIn, digitsNamed}
 use Rattle.masks.specs.Numbers.{lanesText, added, mask-spells, letter-spells}
 use Rattle.masks.specs.declared.MaskFound
 use Rattle.masks.specs.declared.MaskFound.{MaskFound}
@@ -103,7 +103,7 @@ some-digit m = simp some-added (turned (m .lane3) (m .lane2) (m .lane1) (m .lane
     turned l3 true false false = simp or-true
     turned l3 false false false = simp or-false
 
-lanes-number-spells : (m : Mask) → Spells 4 (lanesNumber m) (lanesText m)
+lanes-number-spells : (m : Mask) → NumberSpells 4 (lanesNumber m) (lanesText m)
 lanes-number-spells m = mask-spells m refl refl refl refl
 
 mask-short : (w : LaneWidth) (m : Mask) → length (maskName w m) ≤ longestName
@@ -117,7 +117,7 @@ mask-short w m = lengthened w (m .lane3) (m .lane2) (m .lane1) (m .lane0)
     lengthened Half l3 l2 l1 l0 = simp length-append (omega (arith, one l3 51, one l2 50, one l1 49, one l0 48))
     lengthened Byte l3 l2 l1 l0 = simp length-append (omega (arith, one l3 51, one l2 50, one l1 49, one l0 48))
 
-coded : {x : ℕ} (w : LaneWidth) (m : Mask) → Spells 5 x (maskName w m) → x ≡ codeOf (maskName w m)
+coded : {x : ℕ} (w : LaneWidth) (m : Mask) → NumberSpells 5 x (maskName w m) → x ≡ codeOf (maskName w m)
 unfolding codeOf
 coded w m s = rw (le-leb (length (maskName w m)) longestName (mask-short w m)) (s .code)
 
@@ -258,8 +258,8 @@ abbrev pub DigitsIs : LaneWidth → ℕ → DigitsFound → Type 0
 DigitsIs w x (DigitsFound.Is s) = (x ≡ codeOf (digitsName w s)) × (digitsFit w s ≡ true)
 DigitsIs w x DigitsFound.Not = Unit {0}
 
-pub digits-sound : (w : LaneWidth) (x : ℕ) → DigitsIs w x (digitsOf w x)
-unfolding digitsOf
+pub digits-sound : (w : LaneWidth) (x : ℕ) → DigitsIs w x (digitsNamed w x)
+unfolding digitsNamed
 digits-sound w x = go (eqb (pack (digitsName w (digitsIn w x))) x) refl
   where
     go : (t : Bool) → eqb (pack (digitsName w (digitsIn w x))) x ≡ t → DigitsIs w x (cond t (DigitsFound.Is (digitsIn w x)) DigitsFound.Not)
@@ -320,6 +320,6 @@ in-name Byte s e =
     let x = both _ _ (v .0) in
     byte-name (s .lane0) (s .lane1) (s .lane2) (s .lane3) (leb-true _ 7 (x .0)) (leb-true _ 7 (x .1)) (leb-true _ 7 (v .1)) (leb-true _ 7 (u .1))
 
-pub digits-complete : (w : LaneWidth) (s : Digits) → digitsFit w s ≡ true → digitsOf w (codeOf (digitsName w s)) ≡ DigitsFound.Is s
-unfolding digitsOf
+pub digits-complete : (w : LaneWidth) (s : Digits) → digitsFit w s ≡ true → digitsNamed w (codeOf (digitsName w s)) ≡ DigitsFound.Is s
+unfolding digitsNamed
 digits-complete w s e = rw (digits-pack w s, in-name w s e, eq-eqb (pack (digitsName w s)) (pack (digitsName w s)) refl)

@@ -65,5 +65,5 @@ digitsIn Byte x =
     }
 
 -- a selector exactly when what its digits stand for has this very name
-unfoldable pub digitsOf : LaneWidth → ℕ → DigitsFound
-digitsOf w x = cond (eqb (pack (digitsName w (digitsIn w x))) x) (DigitsFound.Is (digitsIn w x)) DigitsFound.Not
+unfoldable pub digitsNamed : LaneWidth → ℕ → DigitsFound
+digitsNamed w x = cond (eqb (pack (digitsName w (digitsIn w x))) x) (DigitsFound.Is (digitsIn w x)) DigitsFound.Not

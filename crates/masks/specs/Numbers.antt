@@ -5,8 +5,8 @@ use mathlib.Core.Path.{_≡_, refl}
 use mathlib.Core.Bool.{Bool, true, cond}
 use mathlib.Core.List.{List, [], _∷_, _++_, append-assoc, append-nil}
 use borrow.Author.Tests.{lt-ltb}
-use Rattle.base.specs.Pack.{radix, pack, isPlain, Spells}
-use Rattle.base.specs.PackLaws.{spells-more, spells-maybe, written}
+use Rattle.base.specs.Pack.{radix, pack, isPlain, NumberSpells}
+use Rattle.base.specs.PackLaws.{spells-more, spells-maybe, spells-written}
 use Rattle.signs.specs.Text.{bytes}
 use Rattle.record.specs.declared.LaneWidth.{LaneWidth}
 use Rattle.record.specs.declared.LaneWidth.the-variants.{Half, Byte}
@@ -20,10 +20,10 @@ use Rattle.masks.specs.Masks.{laneDigit}
 digit-plain : (n : ℕ) → isPlain (digit n) ≡ true
 digit-plain n = rw (lt-ltb 0 (digit n) (omega arith), lt-ltb (digit n) radix (omega arith))
 
-pub digit-spells : (n : ℕ) → Spells 1 (digit n) (digit n ∷ [])
+pub digit-spells : (n : ℕ) → NumberSpells 1 (digit n) (digit n ∷ [])
 digit-spells n = record { few = omega arith; code = omega arith; small = omega arith; plain = rw (digit-plain n) refl }
 
-pub digit-more : {k x : ℕ} {w : List ℕ} (n : ℕ) → suc k ≤ 9 → Spells k x w → Spells (suc k) (digit n + radix * x) (digit n ∷ w)
+pub digit-more : {k x : ℕ} {w : List ℕ} (n : ℕ) → suc k ≤ 9 → NumberSpells k x w → NumberSpells (suc k) (digit n + radix * x) (digit n ∷ w)
 digit-more n h s = spells-more (digit n) (digit-plain n) h s
 
 -- the digits of the lanes that a mask names
@@ -35,16 +35,16 @@ abbrev pub added : ℕ → Bool → ℕ → ℕ
 added k named x = cond named (laneDigit k + radix * x) x
 
 pub mask-spells : {n0 n1 n2 n3 : ℕ} (m : Mask) → n0 ≡ added 0 (m .lane0) 0 → n1 ≡ added 1 (m .lane1) n0 → n2 ≡ added 2 (m .lane2) n1 → n3 ≡ added 3 (m .lane3) n2
-    → Spells 4 n3 (lanesText m)
+    → NumberSpells 4 n3 (lanesText m)
 mask-spells m d e f g =
     spells-maybe (m .lane3) 51 refl (omega arith) g
     (spells-maybe (m .lane2) 50 refl (omega arith) f
     (spells-maybe (m .lane1) 49 refl (omega arith) e
-    (spells-maybe (m .lane0) 48 refl (omega arith) d (written 0 [] refl))))
+    (spells-maybe (m .lane0) 48 refl (omega arith) d (spells-written 0 [] refl))))
 
 mask-name : (w : LaneWidth) (m : Mask) → laneLetter w ++ lanesText m ≡ maskName w m
 mask-name w m = simp (append-assoc, append-nil)
 
-pub letter-spells : {x : ℕ} (w : LaneWidth) (m : Mask) → Spells 4 x (lanesText m) → Spells 5 (pack (laneLetter w) + radix * x) (maskName w m)
+pub letter-spells : {x : ℕ} (w : LaneWidth) (m : Mask) → NumberSpells 4 x (lanesText m) → NumberSpells 5 (pack (laneLetter w) + radix * x) (maskName w m)
 letter-spells Half m s = rw (← mask-name Half m) (spells-more 104 refl (omega arith) s)
 letter-spells Byte m s = rw (← mask-name Byte m) (spells-more 98 refl (omega arith) s)

@@ -5,10 +5,10 @@ use record::Mask;
 ghost use mathlib.Core.Path.{_≡_};
 ghost use mathlib.Core.Bool.{cond};
 ghost use Prim.Native.Nat.{_+_, _*_, _^_, _≤_, _<_};
-ghost use Rattle.base.specs.Pack.{radix, pack, Spells};
+ghost use Rattle.base.specs.Pack.{radix, pack, NumberSpells};
 ghost use Rattle.rules.specs.Numbers.{lanes};
 ghost use Rattle.rules.specs.Names.{laneLetter, maskName, digitsName};
-ghost use Rattle.masks.specs.Masks.{laneDigit, maskOf, digitsIn, digitsOf};
+ghost use Rattle.masks.specs.Masks.{laneDigit, maskOf, digitsIn, digitsNamed};
 
 // The bytes `b` and `h`, with which names begin.
 const LETTER_B: u64 = 98;
@@ -50,7 +50,7 @@ fn letter(w: LaneWidth) -> u64
 
 // The number of a mask's name.
 pub fn mask_number(w: LaneWidth, m: Mask) -> u64
-    ensures { λ r. ⌜ Spells 5 r (maskName w m) ⌝ }
+    ensures { λ r. ⌜ NumberSpells 5 r (maskName w m) ⌝ }
 {
     let x = digit_if(m.lane0, b'0', 0);
     let x = digit_if(m.lane1, b'1', x);
@@ -112,7 +112,7 @@ pub fn mask_of(w: LaneWidth, x: u64) -> MaskFound
 
 // The number of a selector's name. The first digit is the highest lane's.
 pub fn digits_number(w: LaneWidth, s: Digits) -> u64
-    ensures { λ r. ⌜ Spells 5 r (digitsName w s) ⌝ }
+    ensures { λ r. ⌜ NumberSpells 5 r (digitsName w s) ⌝ }
 {
     let d0 = text::digit(s.lane0 as u64) as u64;
     let d1 = text::digit(s.lane1 as u64) as u64;
@@ -153,7 +153,7 @@ fn digits_in(w: LaneWidth, x: u64) -> Digits
 
 // The name is a selector's exactly when what its digits stand for has this very name.
 pub fn digits_of(w: LaneWidth, x: u64) -> DigitsFound
-    ensures { λ r. ⌜ r ≡ digitsOf w x ⌝ }
+    ensures { λ r. ⌜ r ≡ digitsNamed w x ⌝ }
 {
     let s = digits_in(w, x);
     if digits_number(w, s) == x {

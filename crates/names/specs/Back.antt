@@ -135,8 +135,8 @@ opcodeList =
     ∷ Opcode.Vset ∷ Opcode.Lanes Half ∷ Opcode.Lanes Byte
     ∷ (six Half ++ six Byte ++ Opcode.Set ∷ Opcode.Setp ∷ Opcode.Selp ∷ Opcode.Slct ∷ [])
 
-abbrev pub opcodes : Values Opcode
-opcodes = record { list = opcodeList; listed = place }
+abbrev pub knownOpcodes : Values Opcode
+knownOpcodes = record { list = opcodeList; listed = place }
   where
     place : (t : Opcode) → (i : ℕ) × StandsAt i opcodeList t
     place (Opcode.Scalar Vadd) = (0, refl)
@@ -168,13 +168,13 @@ opcodes = record { list = opcodeList; listed = place }
 
 abbrev pub OpcodeBack : ℕ → OpcodeName → Type 0
 OpcodeBack x (OpcodeName.Is t) = x ≡ pack (opcodeName t)
-OpcodeBack x OpcodeName.Not = None opcodeName (opcodes .list) x
+OpcodeBack x OpcodeName.Not = None opcodeName (knownOpcodes .list) x
 
 opcodeNaming : Naming opcodeName OpcodeName.Is OpcodeName.Not
-opcodeNaming = record { values = opcodes; short = refl; apart = refl; one = λ a t e. cc; other = λ t e. let z : _≡_ {A = ℕ} 0 1 = cc in omega arith }
+opcodeNaming = record { values = knownOpcodes; short = refl; apart = refl; one = λ a t e. cc; other = λ t e. let z : _≡_ {A = ℕ} 0 1 = cc in omega arith }
 
 unfoldable pub opcodeOf : ℕ → OpcodeName
-opcodeOf x = named opcodeName OpcodeName.Is OpcodeName.Not (opcodes .list) x
+opcodeOf x = named opcodeName OpcodeName.Is OpcodeName.Not (knownOpcodes .list) x
 
 pub opcode-sound : (x : ℕ) (t : Opcode) → opcodeOf x ≡ OpcodeName.Is t → CodeOf x (opcodeName t)
 unfolding opcodeOf opcodeNaming
@@ -329,22 +329,22 @@ BoolBack x BoolName.Not = None boolName (boolOps .list) x
 boolNaming : Naming boolName BoolName.Is BoolName.Not
 boolNaming = record { values = boolOps; short = refl; apart = refl; one = λ a t e. cc; other = λ t e. let z : _≡_ {A = ℕ} 0 1 = cc in omega arith }
 
-unfoldable pub boolOf : ℕ → BoolName
-boolOf x = named boolName BoolName.Is BoolName.Not (boolOps .list) x
+unfoldable pub boolOpOf : ℕ → BoolName
+boolOpOf x = named boolName BoolName.Is BoolName.Not (boolOps .list) x
 
-pub bool-sound : (x : ℕ) (t : BoolOp) → boolOf x ≡ BoolName.Is t → CodeOf x (boolName t)
-unfolding boolOf boolNaming
+pub bool-sound : (x : ℕ) (t : BoolOp) → boolOpOf x ≡ BoolName.Is t → CodeOf x (boolName t)
+unfolding boolOpOf boolNaming
 bool-sound = sound boolName BoolName.Is BoolName.Not boolNaming
 
-pub bool-complete : (t : BoolOp) → boolOf (codeOf (boolName t)) ≡ BoolName.Is t
-unfolding boolOf boolNaming
+pub bool-complete : (t : BoolOp) → boolOpOf (codeOf (boolName t)) ≡ BoolName.Is t
+unfolding boolOpOf boolNaming
 bool-complete = complete boolName BoolName.Is BoolName.Not boolNaming
 
-pub bool-is : {x : ℕ} {r : BoolName} → Means BoolBack x r → r ≡ boolOf x
-unfolding boolOf boolNaming
+pub bool-is : {x : ℕ} {r : BoolName} → Means BoolBack x r → r ≡ boolOpOf x
+unfolding boolOpOf boolNaming
 bool-is {x} {r} m = go r (m .means)
   where
-    go : (r : BoolName) → BoolBack x r → r ≡ boolOf x
+    go : (r : BoolName) → BoolBack x r → r ≡ boolOpOf x
     go (BoolName.Is t) e = rw e (sym (back boolName BoolName.Is BoolName.Not boolNaming t))
     go BoolName.Not h = sym (unknown boolName BoolName.Is BoolName.Not boolNaming x h)
 

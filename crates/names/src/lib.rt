@@ -14,7 +14,7 @@ use record::Selector;
 use record::SetType;
 use record::VideoType;
 ghost use mathlib.Core.Path.{_≡_};
-ghost use Rattle.base.specs.Pack.{Spells};
+ghost use Rattle.base.specs.Pack.{NumberSpells};
 ghost use Rattle.names.specs.Back.{Means, OpcodeBack, VideoBack, SetTypeBack, TypeBack, SixBack, CmpBack, BoolBack, Op2Back, SelectorBack};
 ghost use Rattle.record.specs.declared.CmpOp.the-variants.{Unsigned, Float};
 ghost use Rattle.record.specs.declared.LaneArith.the-variants.{Scalar};
@@ -162,7 +162,7 @@ pub const H1: u64 = 6376;
 // ---- the number of each choice's name
 
 pub fn video_number(t: VideoType) -> u64
-    ensures { λ r. ⌜ Spells 3 r (videoTypeName t) ⌝ }
+    ensures { λ r. ⌜ NumberSpells 3 r (videoTypeName t) ⌝ }
 {
     match t {
         VideoType::U32 => U32,
@@ -171,7 +171,7 @@ pub fn video_number(t: VideoType) -> u64
 }
 
 pub fn set_type_number(t: SetType) -> u64
-    ensures { λ r. ⌜ Spells 3 r (setTypeName t) ⌝ }
+    ensures { λ r. ⌜ NumberSpells 3 r (setTypeName t) ⌝ }
 {
     match t {
         SetType::U32 => U32,
@@ -181,7 +181,7 @@ pub fn set_type_number(t: SetType) -> u64
 }
 
 pub fn type_number(t: DataType) -> u64
-    ensures { λ r. ⌜ Spells 3 r (typeName t) ⌝ }
+    ensures { λ r. ⌜ NumberSpells 3 r (typeName t) ⌝ }
 {
     match t {
         DataType::B32 => B32,
@@ -196,7 +196,7 @@ pub fn type_number(t: DataType) -> u64
 }
 
 pub fn six_number(t: Cmp6) -> u64
-    ensures { λ r. ⌜ Spells 2 r (sixName t) ⌝ }
+    ensures { λ r. ⌜ NumberSpells 2 r (sixName t) ⌝ }
 {
     match t {
         Cmp6::Eq => EQ,
@@ -209,7 +209,7 @@ pub fn six_number(t: Cmp6) -> u64
 }
 
 fn unsigned_number(t: CmpU) -> u64
-    ensures { λ r. ⌜ Spells 2 r (cmpName (Unsigned t)) ⌝ }
+    ensures { λ r. ⌜ NumberSpells 2 r (cmpName (Unsigned t)) ⌝ }
 {
     match t {
         CmpU::Lo => LO,
@@ -220,7 +220,7 @@ fn unsigned_number(t: CmpU) -> u64
 }
 
 fn float_number(t: CmpF) -> u64
-    ensures { λ r. ⌜ Spells 3 r (cmpName (Float t)) ⌝ }
+    ensures { λ r. ⌜ NumberSpells 3 r (cmpName (Float t)) ⌝ }
 {
     match t {
         CmpF::Equ => EQU,
@@ -235,7 +235,7 @@ fn float_number(t: CmpF) -> u64
 }
 
 pub fn cmp_number(t: CmpOp) -> u64
-    ensures { λ r. ⌜ Spells 3 r (cmpName t) ⌝ }
+    ensures { λ r. ⌜ NumberSpells 3 r (cmpName t) ⌝ }
 {
     match t {
         CmpOp::Six(c) => six_number(c),
@@ -245,7 +245,7 @@ pub fn cmp_number(t: CmpOp) -> u64
 }
 
 pub fn bool_number(t: BoolOp) -> u64
-    ensures { λ r. ⌜ Spells 3 r (boolName t) ⌝ }
+    ensures { λ r. ⌜ NumberSpells 3 r (boolName t) ⌝ }
 {
     match t {
         BoolOp::And => AND,
@@ -255,7 +255,7 @@ pub fn bool_number(t: BoolOp) -> u64
 }
 
 pub fn op2_number(t: Op2) -> u64
-    ensures { λ r. ⌜ Spells 3 r (op2Name t) ⌝ }
+    ensures { λ r. ⌜ NumberSpells 3 r (op2Name t) ⌝ }
 {
     match t {
         Op2::Add => ADD,
@@ -265,7 +265,7 @@ pub fn op2_number(t: Op2) -> u64
 }
 
 pub fn arith_number(t: Arith) -> u64
-    ensures { λ r. ⌜ Spells 8 r (arithName t) ⌝ }
+    ensures { λ r. ⌜ NumberSpells 8 r (arithName t) ⌝ }
 {
     match t {
         Arith::Vadd => VADD,
@@ -277,7 +277,7 @@ pub fn arith_number(t: Arith) -> u64
 }
 
 pub fn lanes_number(t: LaneWidth) -> u64
-    ensures { λ r. ⌜ Spells 5 r (lanesName t) ⌝ }
+    ensures { λ r. ⌜ NumberSpells 5 r (lanesName t) ⌝ }
 {
     match t {
         LaneWidth::Half => VSET2,
@@ -286,7 +286,7 @@ pub fn lanes_number(t: LaneWidth) -> u64
 }
 
 fn half_number(t: Arith) -> u64
-    ensures { λ r. ⌜ Spells 9 r (laneArithName (Scalar t) Half) ⌝ }
+    ensures { λ r. ⌜ NumberSpells 9 r (laneArithName (Scalar t) Half) ⌝ }
 {
     match t {
         Arith::Vadd => VADD2,
@@ -298,7 +298,7 @@ fn half_number(t: Arith) -> u64
 }
 
 fn byte_number(t: Arith) -> u64
-    ensures { λ r. ⌜ Spells 9 r (laneArithName (Scalar t) Byte) ⌝ }
+    ensures { λ r. ⌜ NumberSpells 9 r (laneArithName (Scalar t) Byte) ⌝ }
 {
     match t {
         Arith::Vadd => VADD4,
@@ -310,7 +310,7 @@ fn byte_number(t: Arith) -> u64
 }
 
 pub fn lane_arith_number(t: LaneArith, w: LaneWidth) -> u64
-    ensures { λ r. ⌜ Spells 9 r (laneArithName t w) ⌝ }
+    ensures { λ r. ⌜ NumberSpells 9 r (laneArithName t w) ⌝ }
 {
     match t {
         LaneArith::Scalar(op) => match w {
@@ -325,7 +325,7 @@ pub fn lane_arith_number(t: LaneArith, w: LaneWidth) -> u64
 }
 
 pub fn selector_number(t: Selector) -> u64
-    ensures { λ r. ⌜ Spells 2 r (selectorName t) ⌝ }
+    ensures { λ r. ⌜ NumberSpells 2 r (selectorName t) ⌝ }
 {
     match t {
         Selector::B0 => B0,

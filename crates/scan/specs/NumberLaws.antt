@@ -12,7 +12,7 @@ use Rattle.signs.specs.Bytes.All.{none, more}
 use Rattle.rules.specs.Shape.{digit, numberText}
 use Rattle.rules.specs.Grammar.{numberLimit}
 use Rattle.scan.specs.RunLaws.{not-so, Stops, run-all, split}
-use Rattle.scan.specs.Numbers.{digitOf, numberBy, numberOf}
+use Rattle.scan.specs.Numbers.{digitOf, numberBy, numberFound}
 use Rattle.scan.specs.declared.Number.the-variants.{Got, Bad}
 
 -- ---- digits
@@ -37,8 +37,8 @@ digit-back b e = let h = digit-range b e in omega arith
 -- ---- the scanner on a list whose digits are known
 
 by-run : (w r : List ℕ) → All isDigit w → Stops isDigit r
-    → numberOf (w ++ r) ≡ numberBy (length w) (digitOf (getD (w ++ r) 0 0)) (digitOf (getD (w ++ r) 1 0)) (digitOf (getD (w ++ r) 2 0))
-unfolding numberOf
+    → numberFound (w ++ r) ≡ numberBy (length w) (digitOf (getD (w ++ r) 0 0)) (digitOf (getD (w ++ r) 1 0)) (digitOf (getD (w ++ r) 2 0))
+unfolding numberFound
 by-run w r a h = rw (run-all isDigit r a h)
 
 by-one : (a b c : ℕ) → numberBy 1 a b c ≡ Got a 1
@@ -59,15 +59,15 @@ by-three a b c h = rw (ne-eqb a 0 (omega arith))
 
 -- ---- every number's text is found
 
-one-found : (v : ℕ) (r : List ℕ) → v < 10 → Stops isDigit r → numberOf (digit v ∷ r) ≡ Got v 1
+one-found : (v : ℕ) (r : List ℕ) → v < 10 → Stops isDigit r → numberFound (digit v ∷ r) ≡ Got v 1
 one-found v r k z = by-run (digit v ∷ []) r (more (digit-is v) none) z ∙ by-one _ _ _ ∙ ap (λ (x : ℕ). Got x 1) (omega arith)
 
-two-found : (v : ℕ) (r : List ℕ) → 10 ≤ v → v < 100 → Stops isDigit r → numberOf (digit (v / 10) ∷ digit v ∷ r) ≡ Got v 2
+two-found : (v : ℕ) (r : List ℕ) → 10 ≤ v → v < 100 → Stops isDigit r → numberFound (digit (v / 10) ∷ digit v ∷ r) ≡ Got v 2
 two-found v r j k z =
     by-run (digit (v / 10) ∷ digit v ∷ []) r (more (digit-is (v / 10)) (more (digit-is v) none)) z
     ∙ by-two _ _ _ (omega arith) ∙ ap (λ (x : ℕ). Got x 2) (omega arith)
 
-three-found : (v : ℕ) (r : List ℕ) → 100 ≤ v → v < 1000 → Stops isDigit r → numberOf (digit (v / 100) ∷ digit (v / 10) ∷ digit v ∷ r) ≡ Got v 3
+three-found : (v : ℕ) (r : List ℕ) → 100 ≤ v → v < 1000 → Stops isDigit r → numberFound (digit (v / 100) ∷ digit (v / 10) ∷ digit v ∷ r) ≡ Got v 3
 three-found v r j k z =
     let a : digitOf (digit (v / 100)) ≡ v / 100 = omega (arith, digit-of (v / 100)) in
     let b : digitOf (digit (v / 10)) ≡ v / 10 % 10 = digit-of (v / 10) in
@@ -76,11 +76,11 @@ three-found v r j k z =
     by-run (digit (v / 100) ∷ digit (v / 10) ∷ digit v ∷ []) r (more (digit-is (v / 100)) (more (digit-is (v / 10)) (more (digit-is v) none))) z
     ∙ by-three _ _ _ (omega arith) ∙ ap (λ (x : ℕ). Got x 3) (omega arith)
 
-pub number-complete : (v : ℕ) (r : List ℕ) → v < numberLimit → Stops isDigit r → numberOf (numberText v ++ r) ≡ Got v (length (numberText v))
+pub number-complete : (v : ℕ) (r : List ℕ) → v < numberLimit → Stops isDigit r → numberFound (numberText v ++ r) ≡ Got v (length (numberText v))
 number-complete v r h z = go (ltb v 10) refl (ltb v 100) refl
   where
     go : (t : Bool) → ltb v 10 ≡ t → (u : Bool) → ltb v 100 ≡ u
-        → let w = cond t (digit v ∷ []) (cond u (digit (v / 10) ∷ digit v ∷ []) (digit (v / 100) ∷ digit (v / 10) ∷ digit v ∷ [])) in numberOf (w ++ r) ≡ Got v (length w)
+        → let w = cond t (digit v ∷ []) (cond u (digit (v / 10) ∷ digit v ∷ []) (digit (v / 100) ∷ digit (v / 10) ∷ digit v ∷ [])) in numberFound (w ++ r) ≡ Got v (length w)
     go true e u f = one-found v r (ltb-true v 10 e) z
     go false e true f = two-found v r (ltb-false v 10 e) (ltb-true v 100 f) z
     go false e false f = three-found v r (ltb-false v 100 f) h z
@@ -157,7 +157,7 @@ many-got {A} k a b c v n h e =
 text-at : (w r : List ℕ) (v n : ℕ) → w ≡ numberText v → v < 1000 → n ≡ length w → Stops isDigit r → NumberAt (w ++ r) v n
 text-at w r v n d h l z = record { after = r; whole = ap (λ (x : List ℕ). x ++ r) d; small = h; taken = l ∙ ap length d; stops = z }
 
-sound-by : (w r : List ℕ) → All isDigit w → Stops isDigit r → (v n : ℕ) → numberOf (w ++ r) ≡ Got v n → NumberAt (w ++ r) v n
+sound-by : (w r : List ℕ) → All isDigit w → Stops isDigit r → (v n : ℕ) → numberFound (w ++ r) ≡ Got v n → NumberAt (w ++ r) v n
 sound-by w r none z v n e = zero-got _ _ _ v n (sym (by-run [] r none z) ∙ e)
 sound-by w r (more {b = x} p none) z v n e =
     let g : Got (digitOf x) 1 ≡ Got v n = sym (by-one _ _ _) ∙ sym (by-run w r (more p none) z) ∙ e in
@@ -181,7 +181,7 @@ sound-by w r (more {b = x} p (more {b = y} q (more {b = u} t none))) z v n e =
 sound-by w r (more p (more q (more t (more {w = l} o k)))) z v n e =
     many-got (length w) _ _ _ v n (omega arith) (sym (by-run w r (more p (more q (more t (more o k)))) z) ∙ e)
 
-pub number-sound : (s : List ℕ) (v n : ℕ) → numberOf s ≡ Got v n → NumberAt s v n
+pub number-sound : (s : List ℕ) (v n : ℕ) → numberFound s ≡ Got v n → NumberAt s v n
 number-sound s v n e =
     let k = split isDigit refl s in
     subst (λ (l : List ℕ). NumberAt l v n) (sym (k .whole)) (sound-by (k .front) (k .back) (k .all) (k .stops) v n (rw (k .whole) at e))

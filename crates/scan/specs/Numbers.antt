@@ -5,7 +5,7 @@ use mathlib.Core.Bool.{cond}
 use lib.Dec.{eqb}
 use lib.ListN.{getD}
 use Rattle.signs.specs.Bytes.{isDigit}
-use Rattle.scan.specs.Runs.{run}
+use Rattle.scan.specs.Runs.{runLength}
 use Rattle.scan.specs.declared.Number.{Number}
 use Rattle.scan.specs.declared.Number.the-variants.{Got, Bad}
 
@@ -21,5 +21,5 @@ numberBy n a b c =
     (cond (eqb n 3) (Got (100 * a + 10 * b + c) 3)
     (Bad 3)))))
 
-unfoldable pub numberOf : List ℕ → Number
-numberOf s = numberBy (run isDigit s) (digitOf (getD s 0 0)) (digitOf (getD s 1 0)) (digitOf (getD s 2 0))
+unfoldable pub numberFound : List ℕ → Number
+numberFound s = numberBy (runLength isDigit s) (digitOf (getD s 0 0)) (digitOf (getD s 1 0)) (digitOf (getD s 2 0))

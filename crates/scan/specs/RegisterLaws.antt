@@ -15,9 +15,9 @@ use Rattle.rules.specs.Grammar.{numberLimit, GoodPlace}
 use Rattle.tree.specs.Seen.{seenPlace}
 use Rattle.tree.specs.declared.Place.{Place}
 use Rattle.scan.specs.RunLaws.{Stops, at-is}
-use Rattle.scan.specs.Numbers.{numberOf}
+use Rattle.scan.specs.Numbers.{numberFound}
 use Rattle.scan.specs.NumberLaws.{number-complete, number-first, number-sound}
-use Rattle.scan.specs.Registers.{prefixBy, placeIn, numbered, registerBy, registerOf}
+use Rattle.scan.specs.Registers.{prefixBy, placeIn, registerFrom, registerBy, registerOf}
 use Rattle.scan.specs.declared.Number.{Number}
 use Rattle.scan.specs.declared.Number.the-variants as number
 use Rattle.record.specs.declared.File.{File}
@@ -45,7 +45,7 @@ after-prefix Doubles l = refl
 after-prefix Preds l = refl
 
 found : (f : File) (v : ℕ) (r : List ℕ) → v < numberLimit → Stops isDigit r → registerOf (prefix f ++ (numberText v ++ r)) ≡ Got (placeIn f v) (length (prefix f) + length (numberText v))
-unfolding registerOf registerBy numbered
+unfolding registerOf registerBy registerFrom
 found f v r h z = rw (prefix-found f v r, after-prefix f (numberText v ++ r), number-complete v r h z)
 
 pub register-complete : (p : files.Place) (r : List ℕ) → GoodPlace p → Stops isDigit r → registerOf (registerText p ++ r) ≡ Got (seenPlace p) (length (registerText p))
@@ -119,8 +119,8 @@ is s Preds v r k n p e w h l z =
     let b : k ≡ n = cc in
     record { place = files.pred v; after = r; whole = w; good = h; sees = a; taken = omega arith; stops = z }
 
-numbered-sound : (s : List ℕ) (f : File) (k : ℕ) → PrefixAt s f k → (o : Number) → numberOf (drop k s) ≡ o → (p : Place) (n : ℕ) → numbered f k o ≡ Got p n → RegisterAt s p n
-unfolding numbered
+numbered-sound : (s : List ℕ) (f : File) (k : ℕ) → PrefixAt s f k → (o : Number) → numberFound (drop k s) ≡ o → (p : Place) (n : ℕ) → registerFrom f k o ≡ Got p n → RegisterAt s p n
+unfolding registerFrom
 numbered-sound s f k x (number.Got v m) o p n e =
     let q = number-sound (drop k s) v m o in
     is s f v (q .after) (k + m) n p e (x .whole ∙ ap (λ (l : List ℕ). prefix f ++ l) (q .whole)) (q .small) (omega (arith, x .taken, q .taken)) (q .stops)
@@ -128,7 +128,7 @@ numbered-sound s f k x (number.Bad q) o p n e = never (k + q) p n e
 
 register-by-sound : (s : List ℕ) (x : Prefix) → prefixBy (getD s 0 0) (getD s 1 0) (getD s 2 0) ≡ x → (p : Place) (n : ℕ) → registerBy x s ≡ Got p n → RegisterAt s p n
 unfolding registerBy
-register-by-sound s (Of f k) o p n e = numbered-sound s f k (prefix-sound s f k o) (numberOf (drop k s)) refl p n e
+register-by-sound s (Of f k) o p n e = numbered-sound s f k (prefix-sound s f k o) (numberFound (drop k s)) refl p n e
 register-by-sound s (Not q) o p n e = never q p n e
 
 pub register-sound : (s : List ℕ) (p : Place) (n : ℕ) → registerOf s ≡ Got p n → RegisterAt s p n

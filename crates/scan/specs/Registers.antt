@@ -6,7 +6,7 @@ use lib.Dec.{eqb}
 use lib.ListN.{getD, drop}
 use Rattle.tree.specs.declared.Place.{Place}
 use Rattle.tree.specs.declared.Place.the-variants.{Word, Double, Pred}
-use Rattle.scan.specs.Numbers.{numberOf}
+use Rattle.scan.specs.Numbers.{numberFound}
 use Rattle.scan.specs.declared.Number.{Number}
 use Rattle.scan.specs.declared.Number.the-variants as number
 use Rattle.record.specs.declared.File.{File}
@@ -29,12 +29,12 @@ placeIn Words v = Word (record { 0 = v })
 placeIn Doubles v = Double (record { 0 = v })
 placeIn Preds v = Pred (record { 0 = v })
 
-unfoldable pub numbered : File → ℕ → Number → Register
-numbered f n (number.Got v m) = Got (placeIn f v) (n + m)
-numbered f n (number.Bad p) = Bad (n + p)
+unfoldable pub registerFrom : File → ℕ → Number → Register
+registerFrom f n (number.Got v m) = Got (placeIn f v) (n + m)
+registerFrom f n (number.Bad p) = Bad (n + p)
 
 unfoldable pub registerBy : Prefix → List ℕ → Register
-registerBy (Of f n) s = numbered f n (numberOf (drop n s))
+registerBy (Of f n) s = registerFrom f n (numberFound (drop n s))
 registerBy (Not p) s = Bad p
 
 unfoldable pub registerOf : List ℕ → Register

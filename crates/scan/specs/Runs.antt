@@ -11,8 +11,8 @@ use Rattle.scan.specs.declared.Class.the-variants.{Blank, Digit, Name}
 abbrev pub most : ℕ
 most = 18446744073709551615
 
-unfoldable pub sum : ℕ → ℕ → ℕ
-sum place n = cond (leb n (most - place)) (place + n) most
+unfoldable pub cappedSum : ℕ → ℕ → ℕ
+cappedSum place n = cond (leb n (most - place)) (place + n) most
 
 abbrev pub inClass : Class → ℕ → Bool
 inClass Blank b = isBlank b
@@ -20,6 +20,6 @@ inClass Digit b = isDigit b
 inClass Name b = isNameByte b
 
 -- how many of the class stand at the front
-abbrev pub run : (ℕ → Bool) → List ℕ → ℕ
-run p [] = 0
-run p (x ∷ xs) = cond (p x) (suc (run p xs)) 0
+abbrev pub runLength : (ℕ → Bool) → List ℕ → ℕ
+runLength p [] = 0
+runLength p (x ∷ xs) = cond (p x) (suc (runLength p xs)) 0

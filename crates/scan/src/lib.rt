@@ -10,9 +10,9 @@ ghost use Prim.Native.Nat.{_%_};
 ghost use lib.ListN.{getD, drop, take};
 ghost use Rattle.signs.specs.Bytes.{isBlank, isDigit, isNameByte};
 ghost use Rattle.base.specs.Pack.{radix, codeOf};
-ghost use Rattle.scan.specs.Runs.{sum, inClass, run};
-ghost use Rattle.scan.specs.Numbers.{digitOf, numberBy, numberOf};
-ghost use Rattle.scan.specs.Registers.{prefixBy, placeIn, numbered, registerBy, registerOf};
+ghost use Rattle.scan.specs.Runs.{cappedSum, inClass, runLength};
+ghost use Rattle.scan.specs.Numbers.{digitOf, numberBy, numberFound};
+ghost use Rattle.scan.specs.Registers.{prefixBy, placeIn, registerFrom, registerBy, registerOf};
 
 // The highest number that a place can have.
 const MOST: usize = 18446744073709551615;
@@ -40,7 +40,7 @@ fn front(s: &[u8], n: usize) -> &[u8]
 
 // The place n bytes after another; no slice is so long that it stops at the highest.
 pub fn further(place: usize, n: usize) -> usize
-    ensures { λ r. ⌜ r ≡ sum place n ⌝ }
+    ensures { λ r. ⌜ r ≡ cappedSum place n ⌝ }
 {
     if n <= MOST - place {
         return place + n;
@@ -85,7 +85,7 @@ fn in_class(c: Class, b: u8) -> bool
 
 // How many bytes of the class stand at the front.
 pub fn run_len(c: Class, s: &[u8]) -> usize
-    ensures { λ r. ⌜ r ≡ run (inClass c) (now (s .entry)) ⌝ }
+    ensures { λ r. ⌜ r ≡ runLength (inClass c) (now (s .entry)) ⌝ }
 {
     let mut i = 0;
     while i < s.len() {
@@ -136,7 +136,7 @@ enum Number {
 }
 
 fn read_number(s: &[u8]) -> Number
-    ensures { λ r. ⌜ r ≡ numberOf (now (s .entry)) ⌝ }
+    ensures { λ r. ⌜ r ≡ numberFound (now (s .entry)) ⌝ }
 {
     let n = run_len(Class::Digit, s);
     let a = digit(byte(s, 0));
@@ -226,7 +226,7 @@ fn register_by(p: Prefix, s: &[u8]) -> Register
 }
 
 fn numbered(f: File, n: u8, v: Number) -> Register
-    ensures { λ r. ⌜ r ≡ numbered f n v ⌝ }
+    ensures { λ r. ⌜ r ≡ registerFrom f n v ⌝ }
 {
     match v {
         Number::Got(v, m) => Register::Got(place_in(f, v), (n as u16) + (m as u16)),

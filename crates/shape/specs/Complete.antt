@@ -17,54 +17,54 @@ use Rattle.tree.specs.declared.Guarding.{Guarding}
 use Rattle.tree.specs.declared.Head.{Head}
 use Rattle.tree.specs.declared.Operands.{Operands}
 use Rattle.tree.specs.declared.Parts.{Parts}
-use Rattle.scan.specs.Runs.{run, sum}
+use Rattle.scan.specs.Runs.{runLength, cappedSum}
 use Rattle.scan.specs.RunLaws.{Stops, run-all}
 use Rattle.shape.specs.Head.{headOf as headAt}
-use Rattle.shape.specs.Operands.{operandsOf as operandsAt}
+use Rattle.shape.specs.Operands.{operandsScanned}
 use Rattle.shape.specs.OperandLaws.{operand-first}
 use Rattle.shape.specs.HeadLaws.{HeadRead, head-complete}
 use Rattle.shape.specs.ListLaws.{ListRead, operands-complete}
 use Rattle.shape.specs.GuardLaws.{blank-first, name-first, guard-complete, guard-first}
 use Rattle.shape.specs.Guard.{guardOf}
-use Rattle.shape.specs.Line.{refused, fromEnd, fromOperands, fromGap, fromHead, guardedBy, shapeOf}
+use Rattle.shape.specs.Line.{stoppedAt, fromEnd, fromOperands, fromGap, fromHead, guardedBy, shapeOf}
 use Rattle.shape.specs.declared.GuardRead.the-variants.{Got}
 use Rattle.shape.specs.declared.Scanned.{Scanned}
 
 -- ---- each stage, where it finds what it should
 
-after-blanks : (p : ℕ) (x : Parts) (b : List ℕ) → All isBlank b → fromEnd p x b ≡ record { good = true; place = sum p (length b); parts = x }
+after-blanks : (p : ℕ) (x : Parts) (b : List ℕ) → All isBlank b → fromEnd p x b ≡ record { good = true; place = cappedSum p (length b); parts = x }
 unfolding fromEnd
 after-blanks p x b a =
-    let e : run isBlank b ≡ length b = ap (run isBlank) (sym (append-nil b)) ∙ run-all isBlank [] a refl in
+    let e : runLength isBlank b ≡ length b = ap (runLength isBlank) (sym (append-nil b)) ∙ run-all isBlank [] a refl in
     rw (e, le-ltb (length b) (length b) (omega arith))
 
 -- by what was read of the operands, and of the head
 listed : ℕ → Guarding → Head → List ℕ → Bool → ℕ → Operands → Scanned
-listed p g h w good n o = cond good (fromEnd (sum p n) (record { guard = g; head = h; operands = o }) (drop n w)) (refused (sum p n))
+listed p g h w good n o = cond good (fromEnd (cappedSum p n) (record { guard = g; head = h; operands = o }) (drop n w)) (stoppedAt (cappedSum p n))
 
-after-operands : (p : ℕ) (g : Guarding) (h : Head) (w : List ℕ) (n : ℕ) (o : Operands) → ListRead (operandsAt w) n o
-    → fromOperands p g h w ≡ fromEnd (sum p n) (record { guard = g; head = h; operands = o }) (drop n w)
+after-operands : (p : ℕ) (g : Guarding) (h : Head) (w : List ℕ) (n : ℕ) (o : Operands) → ListRead (operandsScanned w) n o
+    → fromOperands p g h w ≡ fromEnd (cappedSum p n) (record { guard = g; head = h; operands = o }) (drop n w)
 unfolding fromOperands listed
-after-operands p g h w n o r = go (operandsAt w .good) (operandsAt w .place) (operandsAt w .operands) (r .good) (r .place) (r .operands)
+after-operands p g h w n o r = go (operandsScanned w .good) (operandsScanned w .place) (operandsScanned w .operands) (r .good) (r .place) (r .operands)
   where
-    go : (t : Bool) (m : ℕ) (q : Operands) → t ≡ true → m ≡ n → q ≡ o → listed p g h w t m q ≡ fromEnd (sum p n) (record { guard = g; head = h; operands = o }) (drop n w)
+    go : (t : Bool) (m : ℕ) (q : Operands) → t ≡ true → m ≡ n → q ≡ o → listed p g h w t m q ≡ fromEnd (cappedSum p n) (record { guard = g; head = h; operands = o }) (drop n w)
     go t m q a b c = rw (a, b, c)
 
-pub after-gap : (p : ℕ) (g : Guarding) (h : Head) (b r : List ℕ) → Some isBlank b → Stops isBlank r → fromGap p g h (b ++ r) ≡ fromOperands (sum p (length b)) g h r
+pub after-gap : (p : ℕ) (g : Guarding) (h : Head) (b r : List ℕ) → Some isBlank b → Stops isBlank r → fromGap p g h (b ++ r) ≡ fromOperands (cappedSum p (length b)) g h r
 unfolding fromGap
 after-gap p g h b r s z = let l = s .some in rw (run-all isBlank r (s .all) z, ne-eqb (length b) 0 (λ q. omega arith), drop-append-seam b r)
 
 named : ℕ → Guarding → List ℕ → Bool → ℕ → Head → Scanned
-named p g w good n h = cond good (fromGap (sum p n) g h (drop n w)) (refused (sum p n))
+named p g w good n h = cond good (fromGap (cappedSum p n) g h (drop n w)) (stoppedAt (cappedSum p n))
 
-after-head : (p : ℕ) (g : Guarding) (w : List ℕ) (n : ℕ) (h : Head) → HeadRead (headAt w) n h → fromHead p g w ≡ fromGap (sum p n) g h (drop n w)
+after-head : (p : ℕ) (g : Guarding) (w : List ℕ) (n : ℕ) (h : Head) → HeadRead (headAt w) n h → fromHead p g w ≡ fromGap (cappedSum p n) g h (drop n w)
 unfolding fromHead named
 after-head p g w n h r = go (headAt w .good) (headAt w .place) (headAt w .head) (r .good) (r .place) (r .head)
   where
-    go : (t : Bool) (m : ℕ) (q : Head) → t ≡ true → m ≡ n → q ≡ h → named p g w t m q ≡ fromGap (sum p n) g h (drop n w)
+    go : (t : Bool) (m : ℕ) (q : Head) → t ≡ true → m ≡ n → q ≡ h → named p g w t m q ≡ fromGap (cappedSum p n) g h (drop n w)
     go t m q a b c = rw (a, b, c)
 
-pub after-guard : (p : ℕ) (g : Guarding) (a r : List ℕ) → guardOf (a ++ r) ≡ Got g (length a) → guardedBy p (guardOf (a ++ r)) (a ++ r) ≡ fromHead (sum p (length a)) g r
+pub after-guard : (p : ℕ) (g : Guarding) (a r : List ℕ) → guardOf (a ++ r) ≡ Got g (length a) → guardedBy p (guardOf (a ++ r)) (a ++ r) ≡ fromHead (cappedSum p (length a)) g r
 unfolding guardedBy
 after-guard p g a r e = rw (e, drop-append-seam a r)
 
@@ -120,7 +120,7 @@ shape-complete t good m = (ap (λ (s : Scanned). s .good) whole, ap (λ (s : Sca
     n = length operand + length others + (length (t .ending) + 1)
 
     place : ℕ
-    place = sum (sum (sum (sum (length (t .before)) (length guard)) (length head)) (length (t .gap))) n
+    place = cappedSum (cappedSum (cappedSum (cappedSum (length (t .before)) (length guard)) (length head)) (length (t .gap))) n
 
     small : length (t .before) + length guard + length head + length (t .gap) + length operand + length others + length (t .ending) + 1 + length (t .behind) ≤ 160
     small = omega (arith, line-length (t .before) guard head (t .gap) operand others (t .ending) (t .behind))
@@ -129,10 +129,10 @@ shape-complete t good m = (ap (λ (s : Scanned). s .good) whole, ap (λ (s : Sca
     first-byte = ap (λ (l : List ℕ). isNameByte (getD l 0 0)) (append-assoc (t .opcode) (dotted (t .modifiers)) from-gap) ∙ name-first (good .opcode) (dotted (t .modifiers) ++ from-gap)
 
     p1 : ℕ
-    p1 = sum (length (t .before)) (length guard)
+    p1 = cappedSum (length (t .before)) (length guard)
 
     p2 : ℕ
-    p2 = sum p1 (length head)
+    p2 = cappedSum p1 (length head)
 
     g : Guarding
     g = seenGuard (t .guard)
@@ -140,7 +140,7 @@ shape-complete t good m = (ap (λ (s : Scanned). s .good) whole, ap (λ (s : Sca
     h : Head
     h = seenHead (t .opcode ∷ t .modifiers)
 
-    whole : shapeOf (lineText t) ≡ record { good = true; place = sum place (length (t .behind)); parts = seen t }
+    whole : shapeOf (lineText t) ≡ record { good = true; place = cappedSum place (length (t .behind)); parts = seen t }
     whole =
         ap shapeOf (line-joined (t .before) guard head (t .gap) operand others (t .ending) (t .behind))
         ∙ after-before (t .before) (guard ++ from-head) (good .before) (guard-first (t .guard) from-head first-byte)
@@ -150,7 +150,7 @@ shape-complete t good m = (ap (λ (s : Scanned). s .good) whole, ap (λ (s : Sca
         (blank-first (λ (b : ℕ). eqb b 46 ≡ false) refl refl (good .gap) from-first) (omega (arith, small)))
         ∙ ap (fromGap p2 g h) (drop-append-seam head from-gap)
         ∙ after-gap p2 g h (t .gap) from-first (good .gap) (operand-first (t .first) (others ++ end))
-        ∙ after-operands (sum p2 (length (t .gap))) g h from-first n (seenOperands (operandsOf t))
+        ∙ after-operands (cappedSum p2 (length (t .gap))) g h from-first n (seenOperands (operandsOf t))
         (operands-complete (t .first) (t .others) (t .ending) (t .behind) (good .first) (good .others) (good .ending) (omega (arith, small)))
         ∙ ap (fromEnd place (seen t)) (past-list operand others (t .ending) (t .behind))
         ∙ after-blanks place (seen t) (t .behind) (good .behind)

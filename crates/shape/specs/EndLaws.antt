@@ -10,15 +10,15 @@ use Rattle.signs.specs.Bytes.{isBlank, isNameByte}
 use Rattle.base.specs.Pack.{codeOf}
 use Rattle.tree.specs.declared.Head.{Head}
 use Rattle.tree.specs.declared.Operands.{Operands}
-use Rattle.scan.specs.Runs.{run, sum}
+use Rattle.scan.specs.Runs.{runLength, cappedSum}
 use Rattle.scan.specs.RunLaws.{not-so, sum-some}
 use Rattle.scan.specs.Registers.{prefixBy, registerBy, registerOf}
 use Rattle.shape.specs.Turns.{mostTurns}
 use Rattle.shape.specs.TurnLaws.{enough}
-use Rattle.shape.specs.Operand.{firstOf, operandOf}
+use Rattle.shape.specs.Operand.{firstOf, operandScanned}
 use Rattle.shape.specs.Head.{startNames, pushedName, nameBy, nameTurn, headOf}
 use Rattle.shape.specs.HeadLaws as head
-use Rattle.shape.specs.Operands.{pushedTree, startList, dividerBy, dividerOf, dividedBy, operandBy, operandTurn, operandsOf}
+use Rattle.shape.specs.Operands.{pushedTree, startList, dividerBy, dividerOf, dividedBy, operandBy, operandTurn, operandsScanned}
 use Rattle.shape.specs.ListLaws as list
 use Rattle.shape.specs.declared.Names.{Names}
 use Rattle.shape.specs.declared.OperandRead.{OperandRead}
@@ -41,22 +41,22 @@ by-less st n b c x w e = go (eqb n 0) (eqb b 46) e
     longer = pushedName (st .head) c
 
     end : ℕ
-    end = sum (st .place) n
+    end = cappedSum (st .place) n
 
     result : Bool → Bool → Names
     result t u =
         cond t (record { more = false; good = false; place = st .place; step = 0; head = st .head })
-        (cond u (record { more = true; good = false; place = sum end 1; step = sum n 1; head = longer }) (record { more = false; good = true; place = end; step = n; head = longer }))
+        (cond u (record { more = true; good = false; place = cappedSum end 1; step = cappedSum n 1; head = longer }) (record { more = false; good = true; place = end; step = n; head = longer }))
 
     go : (t u : Bool) → result t u .more ≡ true → length (drop (result t u .step) (x ∷ w)) < length (x ∷ w)
     go true u f = not-so f
-    go false true f = shorter x w (sum n 1) (sum-some n 1 (omega arith))
+    go false true f = shorter x w (cappedSum n 1) (sum-some n 1 (omega arith))
     go false false f = not-so f
 
 name-less : (w : List ℕ) (st : Names) → nameTurn w st .more ≡ true → length (drop (nameTurn w st .step) w) < length w
 unfolding nameTurn nameBy
 name-less [] st e = not-so e
-name-less (x ∷ w) st e = let n = run isNameByte (x ∷ w) in by-less st n (getD (x ∷ w) n 0) (codeOf (take n (x ∷ w))) x w e
+name-less (x ∷ w) st e = let n = runLength isNameByte (x ∷ w) in by-less st n (getD (x ∷ w) n 0) (codeOf (take n (x ∷ w))) x w e
 
 pub head-ends : (w : List ℕ) → length w ≤ 160 → headOf w .more ≡ false
 unfolding headOf
@@ -69,26 +69,26 @@ unfolding dividerOf dividerBy
 divider-some r m e = go (eqb b 44) (eqb b 59) e
   where
     n : ℕ
-    n = run isBlank r
+    n = runLength isBlank r
 
     b : ℕ
     b = getD (drop n r) 0 0
 
     k : ℕ
-    k = run isBlank (drop 1 (drop n r))
+    k = runLength isBlank (drop 1 (drop n r))
 
-    go : (t u : Bool) → cond t (divider.Comma (sum (sum n 1) k)) (cond u (divider.Semicolon (sum n 1)) (divider.Bad n)) ≡ divider.Comma m → 0 < m
+    go : (t u : Bool) → cond t (divider.Comma (cappedSum (cappedSum n 1) k)) (cond u (divider.Semicolon (cappedSum n 1)) (divider.Bad n)) ≡ divider.Comma m → 0 < m
     go true u f =
-        let q : sum (sum n 1) k ≡ m = cc in
+        let q : cappedSum (cappedSum n 1) k ≡ m = cc in
         let i = sum-some n 1 (omega arith) in
-        let j = sum-some (sum n 1) k (omega arith) in
+        let j = sum-some (cappedSum n 1) k (omega arith) in
         omega arith
     go false true f = let z : _≡_ {A = ℕ} 0 1 = cc in absurd (omega arith)
     go false false f = let z : _≡_ {A = ℕ} 0 1 = cc in absurd (omega arith)
 
 divided-less : (p : ℕ) (o : Operands) (n : ℕ) (r : List ℕ) (d : Divider) → dividerOf r ≡ d → (x : ℕ) (w : List ℕ) → dividedBy p o n d .more ≡ true → length (drop (dividedBy p o n d .step) (x ∷ w)) < length (x ∷ w)
 unfolding dividedBy
-divided-less p o n r (divider.Comma m) q x w e = let i = divider-some r m q in shorter x w (sum n m) (sum-some n m (omega arith))
+divided-less p o n r (divider.Comma m) q x w e = let i = divider-some r m q in shorter x w (cappedSum n m) (sum-some n m (omega arith))
 divided-less p o n r (divider.Semicolon m) q x w e = not-so e
 divided-less p o n r (divider.Bad m) q x w e = not-so e
 
@@ -97,8 +97,8 @@ unfolding operandBy
 read-less st x w (Got t n) e = divided-less (st .place) (pushedTree (st .operands) t) n (drop n (x ∷ w)) (dividerOf (drop n (x ∷ w))) refl x w e
 read-less st x w (Bad p) e = not-so e
 
-nothing-read : operandOf [] ≡ Bad 0
-unfolding operandOf firstOf registerOf registerBy prefixBy
+nothing-read : operandScanned [] ≡ Bad 0
+unfolding operandScanned firstOf registerOf registerBy prefixBy
 nothing-read = refl
 
 nothing-stops : (st : Listed) (r : OperandRead) → r ≡ Bad 0 → operandBy st r [] .more ≡ false
@@ -107,9 +107,9 @@ nothing-stops st r e = rw e
 
 operand-less : (w : List ℕ) (st : Listed) → operandTurn w st .more ≡ true → length (drop (operandTurn w st .step) w) < length w
 unfolding operandTurn
-operand-less [] st e = not-so (sym (nothing-stops st (operandOf []) nothing-read) ∙ e)
-operand-less (x ∷ w) st e = read-less st x w (operandOf (x ∷ w)) e
+operand-less [] st e = not-so (sym (nothing-stops st (operandScanned []) nothing-read) ∙ e)
+operand-less (x ∷ w) st e = read-less st x w (operandScanned (x ∷ w)) e
 
-pub operands-end : (w : List ℕ) → length w ≤ 160 → operandsOf w .more ≡ false
-unfolding operandsOf
+pub operands-end : (w : List ℕ) → length w ≤ 160 → operandsScanned w .more ≡ false
+unfolding operandsScanned
 operands-end w m = enough list.going list.took operandTurn operand-less mostTurns w startList (omega arith)

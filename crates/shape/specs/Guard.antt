@@ -6,7 +6,7 @@ use lib.Dec.{eqb}
 use lib.ListN.{getD, drop}
 use Rattle.signs.specs.Bytes.{isBlank}
 use Rattle.tree.specs.declared.Guarding.the-variants.{Unguarded, Guarded}
-use Rattle.scan.specs.Runs.{run, sum}
+use Rattle.scan.specs.Runs.{runLength, cappedSum}
 use Rattle.scan.specs.Registers.{registerOf}
 use Rattle.scan.specs.declared.Register.{Register}
 use Rattle.scan.specs.declared.Register.the-variants as register
@@ -15,8 +15,8 @@ use Rattle.shape.specs.declared.GuardRead.the-variants.{Got, Bad}
 
 unfoldable pub guardBy : Bool → ℕ → Register → List ℕ → GuardRead
 guardBy negated n (register.Got p m) w =
-    let blanks = run isBlank (drop m w) in
-    cond (eqb blanks 0) (Bad (n + m)) (Got (Guarded negated p) (sum (n + m) blanks))
+    let blanks = runLength isBlank (drop m w) in
+    cond (eqb blanks 0) (Bad (n + m)) (Got (Guarded negated p) (cappedSum (n + m) blanks))
 guardBy negated n (register.Bad q) w = Bad (n + q)
 
 unfoldable pub guardOf : List ℕ → GuardRead

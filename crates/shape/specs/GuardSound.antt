@@ -17,7 +17,7 @@ use Rattle.tree.specs.Seen.{seenPlace, seenGuard}
 use Rattle.tree.specs.declared.Place.{Place}
 use Rattle.tree.specs.declared.Guarding.{Guarding}
 use Rattle.tree.specs.declared.Guarding.the-variants.{Unguarded, Guarded}
-use Rattle.scan.specs.Runs.{run, sum, most}
+use Rattle.scan.specs.Runs.{runLength, cappedSum, most}
 use Rattle.scan.specs.RunLaws.{split, at-is, sum-is}
 use Rattle.scan.specs.Registers.{registerOf}
 use Rattle.scan.specs.RegisterLaws.{RegisterAt, register-sound}
@@ -40,22 +40,22 @@ record SignedAt (w : List ℕ) (negated : Bool) (k : ℕ) (g : Guarding) (n : �
   sees : Guarded negated (seenPlace place) ≡ g
   taken : n ≡ k + length (registerText place ++ blanks)
 
-by-count : (w : List ℕ) (negated : Bool) (k : ℕ) (p : Place) (m : ℕ) (c : ℕ) → run isBlank (drop m w) ≡ c
-    → guardBy negated k (register.Got p m) w ≡ cond (eqb c 0) (Bad (k + m)) (Got (Guarded negated p) (sum (k + m) c))
+by-count : (w : List ℕ) (negated : Bool) (k : ℕ) (p : Place) (m : ℕ) (c : ℕ) → runLength isBlank (drop m w) ≡ c
+    → guardBy negated k (register.Got p m) w ≡ cond (eqb c 0) (Bad (k + m)) (Got (Guarded negated p) (cappedSum (k + m) c))
 unfolding guardBy
 by-count w negated k p m c e = rw e
 
-by-blanks : (w : List ℕ) (negated : Bool) (k : ℕ) (p : Place) (m : ℕ) → k + length w ≤ most → (a : RegisterAt w p m) → (b c : List ℕ) → a .after ≡ b ++ c → All isBlank b → run isBlank (drop m w) ≡ length b
+by-blanks : (w : List ℕ) (negated : Bool) (k : ℕ) (p : Place) (m : ℕ) → k + length w ≤ most → (a : RegisterAt w p m) → (b c : List ℕ) → a .after ≡ b ++ c → All isBlank b → runLength isBlank (drop m w) ≡ length b
     → (g : Guarding) (n : ℕ) → guardBy negated k (register.Got p m) w ≡ Got g n → SignedAt w negated k g n
 by-blanks w negated k p m h a b c d none q g n e = never (k + m) g n (sym (by-count w negated k p m 0 q) ∙ e)
 by-blanks w negated k p m h a b c d (more {b = x} {w = v} y z) q g n e =
     let t : List ℕ = registerText (a .place) in
     let s : List ℕ = x ∷ v in
     let l : length w ≡ length t + (length s + length c) = ap length (a .whole) ∙ length-append t (a .after) ∙ ap (λ (i : ℕ). length t + i) (ap length d ∙ length-append s c) in
-    let u : Got (Guarded negated p) (sum (k + m) (length s)) ≡ Got g n = sym (by-count w negated k p m (length s) q ∙ rw (ne-eqb (length s) 0 (λ i. omega arith))) ∙ e in
-    let f : sum (k + m) (length s) ≡ k + m + length s = sum-is (k + m) (length s) (omega (arith, a .taken)) in
+    let u : Got (Guarded negated p) (cappedSum (k + m) (length s)) ≡ Got g n = sym (by-count w negated k p m (length s) q ∙ rw (ne-eqb (length s) 0 (λ i. omega arith))) ∙ e in
+    let f : cappedSum (k + m) (length s) ≡ k + m + length s = sum-is (k + m) (length s) (omega (arith, a .taken)) in
     let i : Guarded negated p ≡ g = cc in
-    let j : sum (k + m) (length s) ≡ n = cc in
+    let j : cappedSum (k + m) (length s) ≡ n = cc in
     record {
       place = a .place;
       blanks = s;
@@ -74,7 +74,7 @@ signed-sound w negated k h (register.Got p m) o g n e =
     let a = register-sound w p m o in
     let d : drop m w ≡ a .after = ap (λ (i : ℕ). drop i w) (a .taken) ∙ ap (drop (length (registerText (a .place)))) (a .whole) ∙ drop-append-seam (registerText (a .place)) (a .after) in
     let x = split isBlank refl (a .after) in
-    by-blanks w negated k p m h a (x .front) (x .back) (x .whole) (x .all) (ap (run isBlank) d ∙ x .count) g n e
+    by-blanks w negated k p m h a (x .front) (x .back) (x .whole) (x .all) (ap (runLength isBlank) d ∙ x .count) g n e
 
 pub record GuardAt (w : List ℕ) (g : Guarding) (n : ℕ) : Type 0 where
   pub tree : GuardTree

@@ -9,7 +9,7 @@ use Rattle.signs.specs.Bytes.{isNameByte}
 use Rattle.base.specs.Pack.{codeOf}
 use Rattle.tree.specs.Seen.{namesKept}
 use Rattle.tree.specs.declared.Head.{Head}
-use Rattle.scan.specs.Runs.{run, sum}
+use Rattle.scan.specs.Runs.{runLength, cappedSum}
 use Rattle.shape.specs.Turns.{turns, mostTurns}
 use Rattle.shape.specs.declared.Names.{Names}
 use Rattle.shape.specs.declared.Turn.{Turn}
@@ -18,7 +18,7 @@ abbrev pub noHead : Head
 noHead = record { n = 0; at = replicate namesKept 0 }
 
 unfoldable pub pushedName : Head → ℕ → Head
-pushedName h code = record { n = sum (h .n) 1; at = cond (leb namesKept (h .n)) (h .at) (set (h .at) (h .n) code) }
+pushedName h code = record { n = cappedSum (h .n) 1; at = cond (leb namesKept (h .n)) (h .at) (set (h .at) (h .n) code) }
 
 abbrev pub startNames : Names
 startNames = record { more = true; good = false; place = 0; step = 0; head = noHead }
@@ -26,13 +26,13 @@ startNames = record { more = true; good = false; place = 0; step = 0; head = noH
 unfoldable pub nameBy : Names → ℕ → ℕ → ℕ → Names
 nameBy st n b code =
     let longer = pushedName (st .head) code in
-    let end = sum (st .place) n in
+    let end = cappedSum (st .place) n in
     cond (eqb n 0) (record { more = false; good = false; place = st .place; step = 0; head = st .head })
-    (cond (eqb b 46) (record { more = true; good = false; place = sum end 1; step = sum n 1; head = longer })
+    (cond (eqb b 46) (record { more = true; good = false; place = cappedSum end 1; step = cappedSum n 1; head = longer })
     (record { more = false; good = true; place = end; step = n; head = longer }))
 
 unfoldable pub nameTurn : List ℕ → Names → Names
-nameTurn w st = let n = run isNameByte w in nameBy st n (getD w n 0) (codeOf (take n w))
+nameTurn w st = let n = runLength isNameByte w in nameBy st n (getD w n 0) (codeOf (take n w))
 
 abbrev pub nameTurns : ℕ → List ℕ → Names → Names
 nameTurns = turns (λ (st : Names). st .more) (λ (st : Names). st .step) nameTurn
@@ -48,8 +48,8 @@ namesBy t h = record { more = t .more; good = t .good; place = t .place; step = 
 unfoldable pub turnNamed : ℕ → ℕ → ℕ → Turn
 turnNamed p n b =
     cond (eqb n 0) (record { more = false; good = false; place = p; step = 0 })
-    (cond (eqb b 46) (record { more = true; good = false; place = sum (sum p n) 1; step = sum n 1 })
-    (record { more = false; good = true; place = sum p n; step = n }))
+    (cond (eqb b 46) (record { more = true; good = false; place = cappedSum (cappedSum p n) 1; step = cappedSum n 1 })
+    (record { more = false; good = true; place = cappedSum p n; step = n }))
 
 -- no name, and a name
 pub none-apart : (st : Names) (n b code : ℕ) → eqb n 0 ≡ true → nameBy st n b code ≡ namesBy (turnNamed (st .place) n b) (st .head)
@@ -64,7 +64,7 @@ name-apart st n b code e = rw e (go (eqb b 46))
     longer = pushedName (st .head) code
 
     go : (d : Bool)
-        → cond d (record { more = true; good = false; place = sum (sum (st .place) n) 1; step = sum n 1; head = longer }) (record { more = false; good = true; place = sum (st .place) n; step = n; head = longer })
-        ≡ namesBy (cond d (record { more = true; good = false; place = sum (sum (st .place) n) 1; step = sum n 1 }) (record { more = false; good = true; place = sum (st .place) n; step = n })) longer
+        → cond d (record { more = true; good = false; place = cappedSum (cappedSum (st .place) n) 1; step = cappedSum n 1; head = longer }) (record { more = false; good = true; place = cappedSum (st .place) n; step = n; head = longer })
+        ≡ namesBy (cond d (record { more = true; good = false; place = cappedSum (cappedSum (st .place) n) 1; step = cappedSum n 1 }) (record { more = false; good = true; place = cappedSum (st .place) n; step = n })) longer
     go true = refl
     go false = refl

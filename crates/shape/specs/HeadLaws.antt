@@ -16,7 +16,7 @@ use Rattle.rules.specs.Grammar.GoodNames.{none, more}
 use Rattle.tree.specs.Seen.{seenHead}
 use Rattle.tree.specs.declared.Head.{Head}
 use Rattle.scan.specs.Runs.{most}
-use Rattle.scan.specs.RunLaws.{Stops, run-all, seam, past, sum-is}
+use Rattle.scan.specs.RunLaws.{Stops, run-all, seam, past-seam, sum-is}
 use Rattle.shape.specs.Turns.{mostTurns}
 use Rattle.shape.specs.TurnLaws.{next-turn, last-turn}
 use Rattle.shape.specs.Head.{noHead, pushedName, nameBy, nameTurn, nameTurns, headOf}
@@ -63,7 +63,7 @@ next-name n r p s h k g m =
     let st : Names = on (p + length n + 1) (length n + 1) (pushedName h (codeOf n)) in
     let t : nameTurn w (on p s h) ≡ st = turn-name n (46 ∷ r) (on p s h) g refl ∙ by-dot p s h (length n) (codeOf n) (g .some) m in
     next-turn going took nameTurn k w (on p s h) st refl t
-    ∙ ap (λ (l : List ℕ). nameTurns k l st) (past n 46 r)
+    ∙ ap (λ (l : List ℕ). nameTurns k l st) (past-seam n 46 r)
 
 -- the head was read whole, with its length and its names
 pub record HeadRead (st : Names) (n : ℕ) (h : Head) : Type 0 where

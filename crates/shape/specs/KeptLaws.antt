@@ -10,11 +10,11 @@ use lib.ListN.{length, getD, take, set, replicate, length-append, length-map, ge
 use lib.Seq.{take-append-le, take-append-add, set-append-seam, getD-take, getD-append-add}
 use Rattle.base.specs.Pack.{codeOf}
 use Rattle.rules.specs.Shape.{Name, OperandTree}
-use Rattle.tree.specs.Seen.{first, namesKept, operandsKept, spare, slot, seenHead, seenOperand, seenOperands}
+use Rattle.tree.specs.Seen.{firstPadded, namesKept, operandsKept, spare, slot, seenHead, seenOperand, seenOperands}
 use Rattle.tree.specs.declared.Head.{Head}
 use Rattle.tree.specs.declared.Slot.{Slot}
 use Rattle.tree.specs.declared.Operands.{Operands}
-use Rattle.scan.specs.Runs.{sum, most}
+use Rattle.scan.specs.Runs.{cappedSum, most}
 use Rattle.scan.specs.RunLaws.{sum-is}
 use Rattle.shape.specs.Head.{noHead, pushedName}
 use Rattle.shape.specs.Operands.{noOperands, pushedTree}
@@ -27,34 +27,34 @@ module _ {A : Type 0} (past : A) where
   take-past (suc j) zero h = absurd (omega arith)
   take-past (suc j) (suc k) h = ap (_∷_ past) (take-past j k (omega arith))
 
-  room : (k j : ℕ) (ys : List A) (x : A) → k ≡ length ys + suc j → set (first k past ys) (length ys) x ≡ first k past (ys ++ (x ∷ []))
+  room : (k j : ℕ) (ys : List A) (x : A) → k ≡ length ys + suc j → set (firstPadded k past ys) (length ys) x ≡ firstPadded k past (ys ++ (x ∷ []))
   room k j ys x h =
       let r : List A = replicate k past in
-      let a : first k past ys ≡ ys ++ (past ∷ replicate j past) =
+      let a : firstPadded k past ys ≡ ys ++ (past ∷ replicate j past) =
       ap (λ (n : ℕ). take n (ys ++ r)) h ∙ take-append-add ys r (suc j) ∙ ap (λ (l : List A). ys ++ l) (take-past (suc j) k (omega arith)) in
-      let b : first k past (ys ++ (x ∷ [])) ≡ ys ++ (x ∷ replicate j past) =
+      let b : firstPadded k past (ys ++ (x ∷ [])) ≡ ys ++ (x ∷ replicate j past) =
       ap (take k) (append-assoc ys (x ∷ []) r) ∙ ap (λ (n : ℕ). take n (ys ++ (x ∷ r))) h ∙ take-append-add ys (x ∷ r) (suc j)
       ∙ ap (λ (l : List A). ys ++ (x ∷ l)) (take-past j k (omega arith)) in
       ap (λ (l : List A). set l (length ys) x) a ∙ set-append-seam ys past (replicate j past) x ∙ sym b
 
-  full : (k : ℕ) (ys : List A) (x : A) → k ≤ length ys → first k past ys ≡ first k past (ys ++ (x ∷ []))
+  full : (k : ℕ) (ys : List A) (x : A) → k ≤ length ys → firstPadded k past ys ≡ firstPadded k past (ys ++ (x ∷ []))
   full k ys x h =
       take-append-le k ys (replicate k past) h ∙ sym (take-append-le k ys ((x ∷ []) ++ replicate k past) h) ∙ sym (ap (take k) (append-assoc ys (x ∷ []) (replicate k past)))
 
-  one-more : (k : ℕ) (ys : List A) (x : A) → cond (leb k (length ys)) (first k past ys) (set (first k past ys) (length ys) x) ≡ first k past (ys ++ (x ∷ []))
+  one-more : (k : ℕ) (ys : List A) (x : A) → cond (leb k (length ys)) (firstPadded k past ys) (set (firstPadded k past ys) (length ys) x) ≡ firstPadded k past (ys ++ (x ∷ []))
   one-more k ys x = go (leb k (length ys)) refl
     where
-      go : (t : Bool) → leb k (length ys) ≡ t → cond t (first k past ys) (set (first k past ys) (length ys) x) ≡ first k past (ys ++ (x ∷ []))
+      go : (t : Bool) → leb k (length ys) ≡ t → cond t (firstPadded k past ys) (set (firstPadded k past ys) (length ys) x) ≡ firstPadded k past (ys ++ (x ∷ []))
       go true e = full k ys x (leb-true k (length ys) e)
       go false e = let h = leb-false k (length ys) e in room k (k - suc (length ys)) ys x (omega arith)
 
-one-longer : {A : Type 0} (ys : List A) (x : A) → length ys + 1 ≤ most → sum (length ys) 1 ≡ length (ys ++ (x ∷ []))
+one-longer : {A : Type 0} (ys : List A) (x : A) → length ys + 1 ≤ most → cappedSum (length ys) 1 ≡ length (ys ++ (x ∷ []))
 one-longer ys x h = sum-is (length ys) 1 h ∙ sym (length-append ys (x ∷ []))
 
 -- ---- names
 
 abbrev headFor : List ℕ → Head
-headFor ys = record { n = length ys; at = first namesKept 0 ys }
+headFor ys = record { n = length ys; at = firstPadded namesKept 0 ys }
 
 head-same : {n m : ℕ} {a b : List ℕ} → n ≡ m → a ≡ b → _≡_ {A = Head} (record { n = n; at = a }) (record { n = m; at = b })
 head-same p q = rw (p, q)
@@ -84,7 +84,7 @@ kept-names ns h = kept-from [] ns (omega arith) ∙ head-same (length-map ns cod
 -- ---- operands
 
 abbrev operandsFor : List Slot → Operands
-operandsFor ys = record { n = length ys; at = first operandsKept spare ys }
+operandsFor ys = record { n = length ys; at = firstPadded operandsKept spare ys }
 
 operands-same : {n m : ℕ} {a b : List Slot} → n ≡ m → a ≡ b → _≡_ {A = Operands} (record { n = n; at = a }) (record { n = m; at = b })
 operands-same p q = rw (p, q)
@@ -111,7 +111,7 @@ kept-operands os h = kept-on [] os (omega arith) ∙ operands-same (length-map o
 
 -- ---- what stands at a place of what is kept
 
-pub kept-at : {A : Type 0} (past : A) (k i : ℕ) (l : List A) → i < k → getD (first k past l) i past ≡ getD l i past
+pub kept-at : {A : Type 0} (past : A) (k i : ℕ) (l : List A) → i < k → getD (firstPadded k past l) i past ≡ getD l i past
 kept-at past k i l h = getD-take k (l ++ replicate k past) i past h ∙ go (ltb i (length l)) refl
   where
     go : (t : Bool) → ltb i (length l) ≡ t → getD (l ++ replicate k past) i past ≡ getD l i past

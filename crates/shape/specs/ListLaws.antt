@@ -17,7 +17,7 @@ use Rattle.scan.specs.RunLaws.{Stops, run-all, sum-is}
 use Rattle.shape.specs.Turns.{mostTurns}
 use Rattle.shape.specs.TurnLaws.{next-turn, last-turn}
 use Rattle.shape.specs.OperandLaws.{Edge, edge-after, operand-complete, operand-first}
-use Rattle.shape.specs.Operands.{noOperands, pushedTree, dividerBy, dividerOf, dividedBy, operandBy, operandTurn, operandTurns, operandsOf}
+use Rattle.shape.specs.Operands.{noOperands, pushedTree, dividerBy, dividerOf, dividedBy, operandBy, operandTurn, operandTurns, operandsScanned}
 use Rattle.shape.specs.KeptLaws.{keptOperands, kept-operands}
 use Rattle.shape.specs.declared.Divider.the-variants.{Comma, Semicolon}
 use Rattle.shape.specs.declared.Listed.{Listed}
@@ -142,8 +142,8 @@ few-operands [] = omega arith
 few-operands (d ∷ ds) = let i = few-operands ds in omega (arith, divided-length (d .before) (d .after) (operandText (d .operand)) (dividedText ds))
 
 pub operands-complete : (t : OperandTree) (ds : List Divided) (b r : List ℕ) → GoodOperand t → GoodOthers ds → All isBlank b → length (operandText t) + length (dividedText ds) + (length b + 1) ≤ 160
-    → ListRead (operandsOf (operandText t ++ (dividedText ds ++ (b ++ (59 ∷ r))))) (length (operandText t) + length (dividedText ds) + (length b + 1)) (seenOperands (t ∷ operandsIn ds))
-unfolding operandsOf
+    → ListRead (operandsScanned (operandText t ++ (dividedText ds ++ (b ++ (59 ∷ r))))) (length (operandText t) + length (dividedText ds) + (length b + 1)) (seenOperands (t ∷ operandsIn ds))
+unfolding operandsScanned
 operands-complete t ds b r g a x m =
     let f = few-operands ds in
     let l : length (operandsIn ds) ≡ length ds = length-map ds (λ (d : Divided). d .operand) in

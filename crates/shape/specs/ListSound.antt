@@ -15,13 +15,13 @@ use Rattle.rules.specs.Grammar.GoodOthers.{none, more}
 use Rattle.tree.specs.Seen.{seenOperand, seenOperands}
 use Rattle.tree.specs.declared.Tree.{Tree}
 use Rattle.tree.specs.declared.Operands.{Operands}
-use Rattle.scan.specs.Runs.{sum, most}
+use Rattle.scan.specs.Runs.{cappedSum, most}
 use Rattle.scan.specs.RunLaws.{not-so, Stops, split, run-all, at-is}
 use Rattle.shape.specs.Turns.{turns, mostTurns}
 use Rattle.shape.specs.TurnLaws.{last-turn}
-use Rattle.shape.specs.Operand.{operandOf}
+use Rattle.shape.specs.Operand.{operandScanned}
 use Rattle.shape.specs.OperandSound.{operand-sound}
-use Rattle.shape.specs.Operands.{noOperands, pushedTree, dividerBy, dividerOf, dividedBy, operandBy, operandTurn, operandTurns, operandsOf}
+use Rattle.shape.specs.Operands.{noOperands, pushedTree, dividerBy, dividerOf, dividedBy, operandBy, operandTurn, operandTurns, operandsScanned}
 use Rattle.shape.specs.ListLaws.{on, going, took, last-operand, next-operand, operandsIn, divided-joined, divided-length, few-operands}
 use Rattle.shape.specs.KeptLaws.{keptOperands, kept-operands}
 use Rattle.shape.specs.declared.OperandRead.{OperandRead}
@@ -48,23 +48,23 @@ Sound k = (w : List ℕ) (p s : ℕ) (o : Operands) → p + length w ≤ most �
 
 -- ---- turns that find nothing right
 
-no-operand : (w : List ℕ) (p s : ℕ) (o : Operands) (k q : ℕ) → operandOf w ≡ operand.Bad q → operandTurns (suc k) w (on p s o) .good ≡ false
+no-operand : (w : List ℕ) (p s : ℕ) (o : Operands) (k q : ℕ) → operandScanned w ≡ operand.Bad q → operandTurns (suc k) w (on p s o) .good ≡ false
 unfolding operandTurn operandBy
-no-operand w p s o k q e = ap (λ (x : Listed). x .good) (last-turn going took operandTurn k w (on p s o) (record { more = false; good = false; place = sum p q; step = 0; operands = o }) refl (rw e) refl)
+no-operand w p s o k q e = ap (λ (x : Listed). x .good) (last-turn going took operandTurn k w (on p s o) (record { more = false; good = false; place = cappedSum p q; step = 0; operands = o }) refl (rw e) refl)
 
 no-divider : (r : List ℕ) (b c : List ℕ) → r ≡ b ++ c → All isBlank b → Stops isBlank c → eqb (getD c 0 0) 44 ≡ false → eqb (getD c 0 0) 59 ≡ false → dividerOf r ≡ Bad (length b)
 unfolding dividerOf dividerBy
 no-divider r b c d a z e f = rw (d, run-all isBlank c a z, drop-append-seam b c, e, f)
 
-turn-bad : (w : List ℕ) (p s : ℕ) (o : Operands) (t : Tree) (n q : ℕ) (r : List ℕ) → operandOf w ≡ operand.Got t n → drop n w ≡ r → dividerOf r ≡ Bad q
-    → operandTurn w (on p s o) ≡ record { more = false; good = false; place = sum (sum p n) q; step = 0; operands = pushedTree o t }
+turn-bad : (w : List ℕ) (p s : ℕ) (o : Operands) (t : Tree) (n q : ℕ) (r : List ℕ) → operandScanned w ≡ operand.Got t n → drop n w ≡ r → dividerOf r ≡ Bad q
+    → operandTurn w (on p s o) ≡ record { more = false; good = false; place = cappedSum (cappedSum p n) q; step = 0; operands = pushedTree o t }
 unfolding operandTurn operandBy dividedBy
 turn-bad w p s o t n q r e d f = rw (e, d, f)
 
-nothing-divides : (w : List ℕ) (p s : ℕ) (o : Operands) (k : ℕ) (t : Tree) (n q : ℕ) (r : List ℕ) → operandOf w ≡ operand.Got t n → drop n w ≡ r → dividerOf r ≡ Bad q
+nothing-divides : (w : List ℕ) (p s : ℕ) (o : Operands) (k : ℕ) (t : Tree) (n q : ℕ) (r : List ℕ) → operandScanned w ≡ operand.Got t n → drop n w ≡ r → dividerOf r ≡ Bad q
     → operandTurns (suc k) w (on p s o) .good ≡ false
 nothing-divides w p s o k t n q r e d f =
-    ap (λ (x : Listed). x .good) (last-turn going took operandTurn k w (on p s o) (record { more = false; good = false; place = sum (sum p n) q; step = 0; operands = pushedTree o t }) refl (turn-bad w p s o t n q r e d f) refl)
+    ap (λ (x : Listed). x .good) (last-turn going took operandTurn k w (on p s o) (record { more = false; good = false; place = cappedSum (cappedSum p n) q; step = 0; operands = pushedTree o t }) refl (turn-bad w p s o t n q r e d f) refl)
 
 -- ---- turns that find an operand
 
@@ -124,7 +124,7 @@ comma-sound k ih t b a r g x y z p s o m e =
 abbrev Claim : ℕ → ℕ → ℕ → Operands → List ℕ → Type 0
 Claim k p s o w = p + length w ≤ most → operandTurns (suc k) w (on p s o) .good ≡ true → ListAt w p o (operandTurns (suc k) w (on p s o))
 
-by-sign : (k : ℕ) → Sound k → (t : OperandTree) (n : ℕ) (b c : List ℕ) → GoodOperand t → operandOf (operandText t ++ (b ++ c)) ≡ operand.Got (seenOperand t) n → n ≡ length (operandText t)
+by-sign : (k : ℕ) → Sound k → (t : OperandTree) (n : ℕ) (b c : List ℕ) → GoodOperand t → operandScanned (operandText t ++ (b ++ c)) ≡ operand.Got (seenOperand t) n → n ≡ length (operandText t)
     → All isBlank b → Stops isBlank c → (p s : ℕ) (o : Operands) (u : Bool) → eqb (getD c 0 0) 44 ≡ u → (v : Bool) → eqb (getD c 0 0) 59 ≡ v → Claim k p s o (operandText t ++ (b ++ c))
 by-sign k ih t n b c g q l x z p s o true e v f m h =
     let d : c ≡ 44 ∷ drop 1 c = at-is c 0 44 (omega arith) (eqb-true (getD c 0 0) 44 e) in
@@ -139,20 +139,20 @@ by-sign k ih t n b c g q l x z p s o false e false f m h =
     let d : drop n w ≡ b ++ c = ap (λ (i : ℕ). drop i w) l ∙ drop-append-seam (operandText t) (b ++ c) in
     not-so (sym (nothing-divides w p s o k (seenOperand t) n (length b) (b ++ c) q d (no-divider (b ++ c) b c refl x z e f)) ∙ h)
 
-by-operand : (k : ℕ) → Sound k → (w : List ℕ) (p s : ℕ) (o : Operands) (r : OperandRead) → operandOf w ≡ r → Claim k p s o w
+by-operand : (k : ℕ) → Sound k → (w : List ℕ) (p s : ℕ) (o : Operands) (r : OperandRead) → operandScanned w ≡ r → Claim k p s o w
 by-operand k ih w p s o (operand.Bad q) e m h = not-so (sym (no-operand w p s o k q e) ∙ h)
 by-operand k ih w p s o (operand.Got t n) e m h =
     let a = operand-sound w t n (omega arith) e in
     let x = split isBlank refl (a .after) in
     let y : w ≡ operandText (a .tree) ++ (x .front ++ x .back) = a .whole ∙ ap (λ (i : List ℕ). operandText (a .tree) ++ i) (x .whole) in
-    let q : operandOf (operandText (a .tree) ++ (x .front ++ x .back)) ≡ operand.Got (seenOperand (a .tree)) n = sym (ap operandOf y) ∙ e ∙ sym (ap (λ (v : Tree). operand.Got v n) (a .sees)) in
+    let q : operandScanned (operandText (a .tree) ++ (x .front ++ x .back)) ≡ operand.Got (seenOperand (a .tree)) n = sym (ap operandScanned y) ∙ e ∙ sym (ap (λ (v : Tree). operand.Got v n) (a .sees)) in
     subst (Claim k p s o) (sym y)
     (by-sign k ih (a .tree) n (x .front) (x .back) (a .good) q (a .taken) (x .all) (x .stops) p s o (eqb (getD (x .back) 0 0) 44) refl (eqb (getD (x .back) 0 0) 59) refl) m h
 
 sound-turns : (k : ℕ) → Sound k
 unfolding Sound turns
 sound-turns zero w p s o m e = not-so e
-sound-turns (suc k) w p s o m e = by-operand k (sound-turns k) w p s o (operandOf w) refl m e
+sound-turns (suc k) w p s o m e = by-operand k (sound-turns k) w p s o (operandScanned w) refl m e
 
 pub record OperandsAt (w : List ℕ) (st : Listed) : Type 0 where
   pub first : OperandTree
@@ -185,6 +185,6 @@ kept w st m i =
       operands = i .operands ∙ kept-operands (i .first ∷ operandsIn (i .others)) (omega arith);
     }
 
-pub operands-sound : (w : List ℕ) → length w ≤ 160 → operandsOf w .good ≡ true → OperandsAt w (operandsOf w)
-unfolding operandsOf Sound
+pub operands-sound : (w : List ℕ) → length w ≤ 160 → operandsScanned w .good ≡ true → OperandsAt w (operandsScanned w)
+unfolding operandsScanned Sound
 operands-sound w m e = kept w (operandTurns mostTurns w (on 0 0 noOperands)) m (sound-turns mostTurns w 0 0 noOperands (omega arith) e)

@@ -9,8 +9,8 @@ use Rattle.signs.specs.Bytes.{isBlank}
 use Rattle.tree.specs.Seen.{operandsKept, spare}
 use Rattle.tree.specs.declared.Tree.{Tree}
 use Rattle.tree.specs.declared.Operands.{Operands}
-use Rattle.scan.specs.Runs.{run, sum}
-use Rattle.shape.specs.Operand.{operandOf}
+use Rattle.scan.specs.Runs.{runLength, cappedSum}
+use Rattle.shape.specs.Operand.{operandScanned}
 use Rattle.shape.specs.Turns.{turns, mostTurns}
 use Rattle.shape.specs.declared.OperandRead.{OperandRead}
 use Rattle.shape.specs.declared.OperandRead.the-variants as operand
@@ -23,34 +23,34 @@ abbrev pub noOperands : Operands
 noOperands = record { n = 0; at = replicate operandsKept spare }
 
 unfoldable pub pushedTree : Operands → Tree → Operands
-pushedTree o t = record { n = sum (o .n) 1; at = cond (leb operandsKept (o .n)) (o .at) (set (o .at) (o .n) (record { tree = t })) }
+pushedTree o t = record { n = cappedSum (o .n) 1; at = cond (leb operandsKept (o .n)) (o .at) (set (o .at) (o .n) (record { tree = t })) }
 
 unfoldable pub dividerBy : ℕ → ℕ → ℕ → Divider
-dividerBy n b m = cond (eqb b 44) (Comma (sum (sum n 1) m)) (cond (eqb b 59) (Semicolon (sum n 1)) (Bad n))
+dividerBy n b m = cond (eqb b 44) (Comma (cappedSum (cappedSum n 1) m)) (cond (eqb b 59) (Semicolon (cappedSum n 1)) (Bad n))
 
 unfoldable pub dividerOf : List ℕ → Divider
-dividerOf w = let sign = drop (run isBlank w) w in dividerBy (run isBlank w) (getD sign 0 0) (run isBlank (drop 1 sign))
+dividerOf w = let sign = drop (runLength isBlank w) w in dividerBy (runLength isBlank w) (getD sign 0 0) (runLength isBlank (drop 1 sign))
 
 abbrev pub startList : Listed
 startList = record { more = true; good = false; place = 0; step = 0; operands = noOperands }
 
 unfoldable pub dividedBy : ℕ → Operands → ℕ → Divider → Listed
-dividedBy p o n (Comma m) = record { more = true; good = false; place = sum (sum p n) m; step = sum n m; operands = o }
-dividedBy p o n (Semicolon m) = record { more = false; good = true; place = sum (sum p n) m; step = sum n m; operands = o }
-dividedBy p o n (Bad q) = record { more = false; good = false; place = sum (sum p n) q; step = 0; operands = o }
+dividedBy p o n (Comma m) = record { more = true; good = false; place = cappedSum (cappedSum p n) m; step = cappedSum n m; operands = o }
+dividedBy p o n (Semicolon m) = record { more = false; good = true; place = cappedSum (cappedSum p n) m; step = cappedSum n m; operands = o }
+dividedBy p o n (Bad q) = record { more = false; good = false; place = cappedSum (cappedSum p n) q; step = 0; operands = o }
 
 unfoldable pub operandBy : Listed → OperandRead → List ℕ → Listed
 operandBy st (operand.Got t n) w = dividedBy (st .place) (pushedTree (st .operands) t) n (dividerOf (drop n w))
-operandBy st (operand.Bad p) w = record { more = false; good = false; place = sum (st .place) p; step = 0; operands = st .operands }
+operandBy st (operand.Bad p) w = record { more = false; good = false; place = cappedSum (st .place) p; step = 0; operands = st .operands }
 
 unfoldable pub operandTurn : List ℕ → Listed → Listed
-operandTurn w st = operandBy st (operandOf w) w
+operandTurn w st = operandBy st (operandScanned w) w
 
 abbrev pub operandTurns : ℕ → List ℕ → Listed → Listed
 operandTurns = turns (λ (st : Listed). st .more) (λ (st : Listed). st .step) operandTurn
 
-unfoldable pub operandsOf : List ℕ → Listed
-operandsOf s = operandTurns mostTurns s startList
+unfoldable pub operandsScanned : List ℕ → Listed
+operandsScanned s = operandTurns mostTurns s startList
 
 -- ==== a turn apart from the operands that it leaves
 
@@ -58,13 +58,13 @@ abbrev pub listedBy : Turn → Operands → Listed
 listedBy t o = record { more = t .more; good = t .good; place = t .place; step = t .step; operands = o }
 
 unfoldable pub turnDivided : ℕ → ℕ → Divider → Turn
-turnDivided p n (Comma m) = record { more = true; good = false; place = sum (sum p n) m; step = sum n m }
-turnDivided p n (Semicolon m) = record { more = false; good = true; place = sum (sum p n) m; step = sum n m }
-turnDivided p n (Bad q) = record { more = false; good = false; place = sum (sum p n) q; step = 0 }
+turnDivided p n (Comma m) = record { more = true; good = false; place = cappedSum (cappedSum p n) m; step = cappedSum n m }
+turnDivided p n (Semicolon m) = record { more = false; good = true; place = cappedSum (cappedSum p n) m; step = cappedSum n m }
+turnDivided p n (Bad q) = record { more = false; good = false; place = cappedSum (cappedSum p n) q; step = 0 }
 
 unfoldable pub turnBy : ℕ → OperandRead → List ℕ → Turn
 turnBy p (operand.Got t n) w = turnDivided p n (dividerOf (drop n w))
-turnBy p (operand.Bad q) w = record { more = false; good = false; place = sum p q; step = 0 }
+turnBy p (operand.Bad q) w = record { more = false; good = false; place = cappedSum p q; step = 0 }
 
 divided-apart : (p : ℕ) (o : Operands) (n : ℕ) (d : Divider) → dividedBy p o n d ≡ listedBy (turnDivided p n d) o
 unfolding dividedBy turnDivided

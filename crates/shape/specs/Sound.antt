@@ -17,24 +17,24 @@ use Rattle.tree.specs.declared.Guarding.{Guarding}
 use Rattle.tree.specs.declared.Head.{Head}
 use Rattle.tree.specs.declared.Operands.{Operands}
 use Rattle.tree.specs.declared.Parts.{Parts}
-use Rattle.scan.specs.Runs.{run, sum}
+use Rattle.scan.specs.Runs.{runLength, cappedSum}
 use Rattle.scan.specs.RunLaws.{not-so, Stops, Split, split, run-all}
 use Rattle.shape.specs.Head.{headOf}
 use Rattle.shape.specs.HeadSound.{HeadAt, head-sound}
-use Rattle.shape.specs.Operands.{operandsOf}
+use Rattle.shape.specs.Operands.{operandsScanned}
 use Rattle.shape.specs.ListLaws.{operandsIn}
 use Rattle.shape.specs.ListSound.{OperandsAt, operands-sound}
 use Rattle.shape.specs.Guard.{guardOf}
 use Rattle.shape.specs.GuardSound.{GuardAt, guard-sound}
-use Rattle.shape.specs.Line.{refused, fromEnd, fromOperands, fromGap, fromHead, guardedBy, shapeOf}
+use Rattle.shape.specs.Line.{stoppedAt, fromEnd, fromOperands, fromGap, fromHead, guardedBy, shapeOf}
 use Rattle.shape.specs.Complete.{after-before, after-gap, past-list, line-joined}
 use Rattle.shape.specs.declared.GuardRead.{GuardRead}
 use Rattle.shape.specs.declared.GuardRead.the-variants.{Got, Bad}
 use Rattle.shape.specs.declared.Scanned.{Scanned}
 
 -- what is not refused is what was to be
-chosen : (t : Bool) (r : Scanned) (q : ℕ) → cond t r (refused q) .good ≡ true → (t ≡ true) × (cond t r (refused q) ≡ r)
-unfolding refused
+chosen : (t : Bool) (r : Scanned) (q : ℕ) → cond t r (stoppedAt q) .good ≡ true → (t ≡ true) × (cond t r (stoppedAt q) ≡ r)
+unfolding stoppedAt
 chosen true r q e = (refl, refl)
 chosen false r q e = not-so e
 
@@ -50,18 +50,18 @@ nothing-left a [] h = refl
 nothing-left a (x ∷ b) h = absurd (omega (arith, length-append a (x ∷ b)))
 
 end-sound : (p : ℕ) (x : Parts) (w : List ℕ) → fromEnd p x w .good ≡ true → EndAt w x (fromEnd p x w)
-unfolding fromEnd refused
-end-sound p x w e = go (ltb (run isBlank w) (length w)) refl e
+unfolding fromEnd stoppedAt
+end-sound p x w e = go (ltb (runLength isBlank w) (length w)) refl e
   where
     s : Split isBlank w
     s = split isBlank refl w
 
-    go : (t : Bool) → ltb (run isBlank w) (length w) ≡ t → cond t (refused (sum p (run isBlank w))) (record { good = true; place = sum p (run isBlank w); parts = x }) .good ≡ true
-        → EndAt w x (cond t (refused (sum p (run isBlank w))) (record { good = true; place = sum p (run isBlank w); parts = x }))
+    go : (t : Bool) → ltb (runLength isBlank w) (length w) ≡ t → cond t (stoppedAt (cappedSum p (runLength isBlank w))) (record { good = true; place = cappedSum p (runLength isBlank w); parts = x }) .good ≡ true
+        → EndAt w x (cond t (stoppedAt (cappedSum p (runLength isBlank w))) (record { good = true; place = cappedSum p (runLength isBlank w); parts = x }))
     go true q f = not-so f
     go false q f =
         let l : length w ≡ length (s .front ++ s .back) = ap length (s .whole) in
-        let b : s .back ≡ [] = nothing-left (s .front) (s .back) (omega (arith, ltb-false (run isBlank w) (length w) q, s .count)) in
+        let b : s .back ≡ [] = nothing-left (s .front) (s .back) (omega (arith, ltb-false (runLength isBlank w) (length w) q, s .count)) in
         let d : s .front ≡ w = sym (append-nil (s .front)) ∙ sym (ap (λ (i : List ℕ). s .front ++ i) b) ∙ sym (s .whole) in
         record { blank = subst (All isBlank) d (s .all); parts = refl }
 
@@ -78,12 +78,12 @@ record TailAt (w : List ℕ) (g : Guarding) (h : Head) (r : Scanned) : Type 0 wh
   blanks : All isBlank behind
   parts : r .parts ≡ record { guard = g; head = h; operands = seenOperands (first ∷ operandsIn others) }
 
-tail-from : (p : ℕ) (g : Guarding) (h : Head) (w : List ℕ) (r : Scanned) → OperandsAt w (operandsOf w)
-    → r ≡ fromEnd p (record { guard = g; head = h; operands = operandsOf w .operands }) (drop (operandsOf w .place) w) → r .good ≡ true → TailAt w g h r
+tail-from : (p : ℕ) (g : Guarding) (h : Head) (w : List ℕ) (r : Scanned) → OperandsAt w (operandsScanned w)
+    → r ≡ fromEnd p (record { guard = g; head = h; operands = operandsScanned w .operands }) (drop (operandsScanned w .place) w) → r .good ≡ true → TailAt w g h r
 tail-from p g h w r i e good =
-    let x : Parts = record { guard = g; head = h; operands = operandsOf w .operands } in
+    let x : Parts = record { guard = g; head = h; operands = operandsScanned w .operands } in
     let n : ℕ = length (operandText (i .first)) + length (dividedText (i .others)) + (length (i .ending) + 1) in
-    let d : drop (operandsOf w .place) w ≡ i .after =
+    let d : drop (operandsScanned w .place) w ≡ i .after =
     ap (λ (k : ℕ). drop k w) (i .place) ∙ ap (drop n) (i .whole) ∙ past-list (operandText (i .first)) (dividedText (i .others)) (i .ending) (i .after) in
     let q : r ≡ fromEnd p x (i .after) = e ∙ ap (fromEnd p x) d in
     let j = end-sound p x (i .after) (sym (ap (λ (s : Scanned). s .good) q) ∙ good) in
@@ -103,8 +103,8 @@ tail-from p g h w r i e good =
 operands-stage : (p : ℕ) (g : Guarding) (h : Head) (w : List ℕ) → length w ≤ 160 → fromOperands p g h w .good ≡ true → TailAt w g h (fromOperands p g h w)
 unfolding fromOperands
 operands-stage p g h w m e =
-    let read = operandsOf w in
-    let end = sum p (read .place) in
+    let read = operandsScanned w in
+    let end = cappedSum p (read .place) in
     let c = chosen (read .good) (fromEnd end (record { guard = g; head = h; operands = read .operands }) (drop (read .place) w)) end e in
     tail-from end g h w (fromOperands p g h w) (operands-sound w m (c .0)) (c .1) e
 
@@ -117,7 +117,7 @@ record GapAt (w : List ℕ) (g : Guarding) (h : Head) (r : Scanned) : Type 0 whe
   rest : TailAt tail g h r
 
 no-gap : (p : ℕ) (g : Guarding) (h : Head) (w : List ℕ) → Stops isBlank w → fromGap p g h w .good ≡ false
-unfolding fromGap refused
+unfolding fromGap stoppedAt
 no-gap p g h w z = rw (run-all isBlank w none z)
 
 by-gap : (p : ℕ) (g : Guarding) (h : Head) (a b : List ℕ) → All isBlank a → Stops isBlank b → length (a ++ b) ≤ 160 → fromGap p g h (a ++ b) .good ≡ true → GapAt (a ++ b) g h (fromGap p g h (a ++ b))
@@ -125,7 +125,7 @@ by-gap p g h a b none z m e = not-so (sym (no-gap p g h b z) ∙ e)
 by-gap p g h a b (more x y) z m e =
     let some : Some isBlank a = record { all = more x y; some = omega arith } in
     let q = after-gap p g h a b some z in
-    let t = operands-stage (sum p (length a)) g h b (omega (arith, length-append a b)) (sym (ap (λ (s : Scanned). s .good) q) ∙ e) in
+    let t = operands-stage (cappedSum p (length a)) g h b (omega (arith, length-append a b)) (sym (ap (λ (s : Scanned). s .good) q) ∙ e) in
     record { gap = a; tail = b; whole = refl; some = some; rest = subst (TailAt b g h) (sym q) t }
 
 gap-stage : (p : ℕ) (g : Guarding) (h : Head) (w : List ℕ) → length w ≤ 160 → fromGap p g h w .good ≡ true → GapAt w g h (fromGap p g h w)
@@ -157,7 +157,7 @@ head-stage : (p : ℕ) (g : Guarding) (w : List ℕ) → length w ≤ 160 → fr
 unfolding fromHead
 head-stage p g w m e =
     let read = headOf w in
-    let end = sum p (read .place) in
+    let end = cappedSum p (read .place) in
     let c = chosen (read .good) (fromGap end g (read .head) (drop (read .place) w)) end e in
     head-from end g w (fromHead p g w) m (head-sound w m (c .0)) (c .1) e
 
@@ -179,9 +179,9 @@ guard-from p w g n r m i e good =
     record { tree = i .tree; tail = i .after; whole = i .whole; good = i .good; rest = subst (HeadFrom (i .after) (seenGuard (i .tree))) (sym q) j }
 
 guard-stage : (p : ℕ) (w : List ℕ) → length w ≤ 160 → (x : GuardRead) → guardOf w ≡ x → guardedBy p x w .good ≡ true → GuardFrom w (guardedBy p x w)
-unfolding guardedBy refused
+unfolding guardedBy stoppedAt
 guard-stage p w m (Bad q) d e = not-so e
-guard-stage p w m (Got g n) d e = guard-from (sum p n) w g n (guardedBy p (Got g n) w) m (guard-sound w g n m d) refl e
+guard-stage p w m (Got g n) d e = guard-from (cappedSum p n) w g n (guardedBy p (Got g n) w) m (guard-sound w g n m d) refl e
 
 -- ---- the line
 

@@ -16,11 +16,11 @@ use tree::Slot;
 use tree::Spot;
 use tree::Tree;
 ghost use mathlib.Core.Path.{_≡_};
-ghost use Rattle.shape.specs.Operand.{operandOf, inverted, firstOf, afterBy, secondOf, secondBy, partOf};
+ghost use Rattle.shape.specs.Operand.{operandScanned, invertedBy, firstOf, afterBy, secondOf, secondBy, partOf};
 ghost use Rattle.shape.specs.Head.{noHead, headOf, namesBy, turnNamed};
-ghost use Rattle.shape.specs.Operands.{noOperands, dividerBy, dividerOf, operandsOf, listedBy, turnDivided, turnBy};
+ghost use Rattle.shape.specs.Operands.{noOperands, dividerBy, dividerOf, operandsScanned, listedBy, turnDivided, turnBy};
 ghost use Rattle.shape.specs.Guard.{guardBy, guardOf};
-ghost use Rattle.shape.specs.Line.{noParts, refused, fromEnd, fromOperands, fromGap, fromHead, guardedBy, shapeOf};
+ghost use Rattle.shape.specs.Line.{noParts, stoppedAt, fromEnd, fromOperands, fromGap, fromHead, guardedBy, shapeOf};
 
 // An operand and how many bytes it took, or the place of the first byte that is wrong.
 enum OperandRead {
@@ -30,7 +30,7 @@ enum OperandRead {
 
 // `!` and a register; or two places joined by `|`; or a register, optionally with `.` and a name.
 fn read_operand(s: &[u8]) -> OperandRead
-    ensures { λ r. ⌜ r ≡ operandOf (now (s .entry)) ⌝ }
+    ensures { λ r. ⌜ r ≡ operandScanned (now (s .entry)) ⌝ }
 {
     let b = byte(s, 0);
     if b == b'!' {
@@ -46,7 +46,7 @@ fn read_operand(s: &[u8]) -> OperandRead
 }
 
 fn inverted(r: Register) -> OperandRead
-    ensures { λ o. ⌜ o ≡ inverted r ⌝ }
+    ensures { λ o. ⌜ o ≡ invertedBy r ⌝ }
 {
     match r {
         Register::Got(p, n) => OperandRead::Got(Tree::Inverted(p), (n as usize) + 1),
@@ -291,7 +291,7 @@ fn with_operands(t: Turn, operands: Operands) -> Listed
 
 // One or more operands divided by a comma with optional blanks around it; optional blanks; `;`.
 fn read_operands(s: &[u8]) -> Listed
-    ensures { λ r. ⌜ r ≡ operandsOf (now (s .entry)) ⌝ }
+    ensures { λ r. ⌜ r ≡ operandsScanned (now (s .entry)) ⌝ }
 {
     let spare = Slot {
         tree: Tree::Pair(Spot::Nothing, Spot::Nothing),
@@ -430,7 +430,7 @@ fn no_parts(k: usize) -> Parts
 }
 
 fn refused(place: usize) -> Scanned
-    ensures { λ r. ⌜ r ≡ refused place ⌝ }
+    ensures { λ r. ⌜ r ≡ stoppedAt place ⌝ }
 {
     let parts = no_parts(place);
     Scanned {

@@ -36,15 +36,15 @@ seenOperand (bare p) = Bare (seenPlace p)
 seenOperand (part p n) = Part (seenPlace p) (codeOf n)
 
 -- the first k, and what stands past the end
-abbrev pub first {ℓ} : {A : Type ℓ} → ℕ → A → List A → List A
-first k past l = take k (l ++ replicate k past)
+abbrev pub firstPadded {ℓ} : {A : Type ℓ} → ℕ → A → List A → List A
+firstPadded k past l = take k (l ++ replicate k past)
 
 abbrev pub namesKept : ℕ
 namesKept = 8
 
 -- past the end stands 0, which is no name
 unfoldable pub seenHead : List Name → Head
-seenHead ns = record { n = length ns; at = first namesKept 0 (map codeOf ns) }
+seenHead ns = record { n = length ns; at = firstPadded namesKept 0 (map codeOf ns) }
 
 abbrev pub operandsKept : ℕ
 operandsKept = 5
@@ -57,7 +57,7 @@ abbrev pub spare : Slot
 spare = record { tree = Pair Nothing Nothing }
 
 unfoldable pub seenOperands : List OperandTree → Operands
-seenOperands os = record { n = length os; at = first operandsKept spare (map slot os) }
+seenOperands os = record { n = length os; at = firstPadded operandsKept spare (map slot os) }
 
 abbrev pub seenGuard : GuardTree → Guarding
 seenGuard unguarded = Unguarded

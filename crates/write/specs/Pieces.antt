@@ -5,8 +5,8 @@ use mathlib.Core.Path.{_≡_, refl, sym, ap, _∙_}
 use mathlib.Core.Bool.{Bool, true, false, cond}
 use mathlib.Core.List.{List, [], _∷_, _++_, append-assoc, append-nil}
 use Rattle.signs.specs.Text.{bytes}
-use Rattle.base.specs.Pack.{radix, unpacked, spelled, Spells}
-use Rattle.base.specs.PackLaws.{unpacked-none, text-of, text-more, spells-more, written}
+use Rattle.base.specs.Pack.{radix, unpacked, spelled, NumberSpells}
+use Rattle.base.specs.PackLaws.{unpacked-none, text-of, text-more, spells-more, spells-written}
 use Rattle.record.specs.declared.Choice.{Choice}
 use Rattle.record.specs.declared.Cmp6.{Cmp6}
 use Rattle.record.specs.declared.Condition.{Condition}
@@ -21,8 +21,8 @@ use Rattle.write.specs.declared.Piece.{Piece}
 
 -- ==== guards
 
-pub guard-spelled : {x : ℕ} (c : Condition) → Spells 6 x (operandText (conditionTree c)) → spelled ((64 + radix * x) ∷ 32 ∷ []) ≡ guardPart (When c)
-guard-spelled {x} c s = rw (text-more 64 refl s, text-of (written 1 (bytes " ") refl)) (ap (λ (l : List ℕ). l ++ bytes " ") (same (c .inverted)))
+pub guard-spelled : {x : ℕ} (c : Condition) → NumberSpells 6 x (operandText (conditionTree c)) → spelled ((64 + radix * x) ∷ 32 ∷ []) ≡ guardPart (When c)
+guard-spelled {x} c s = rw (text-more 64 refl s, text-of (spells-written 1 (bytes " ") refl)) (ap (λ (l : List ℕ). l ++ bytes " ") (same (c .inverted)))
   where
     same : (t : Bool) → bytes "@" ++ operandText (cond t (inverted (p (c .pred))) (bare (p (c .pred)))) ≡ guardText t (p (c .pred))
     same true = refl
@@ -51,7 +51,7 @@ pub skip : {l : List ℕ} {ns : List Name} → Puts-names l ns → Puts-names (0
 skip a = record { text = rw unpacked-none (a .text) }
 
 -- a name
-pub name : {k x y : ℕ} {w : Name} {l : List ℕ} {ns : List Name} → y ≡ withDot x → Spells k x w → Puts-names l ns → Puts-names (y ∷ l) (w ∷ ns)
+pub name : {k x y : ℕ} {w : Name} {l : List ℕ} {ns : List Name} → y ≡ withDot x → NumberSpells k x w → Puts-names l ns → Puts-names (y ∷ l) (w ∷ ns)
 name {k} {x} {y} {w} {l} {ns} e s a = record { text = rw (e, text-more 46 refl s, a .text) refl }
 
 -- what may be left out
@@ -68,20 +68,20 @@ pub maybe-last : {y : ℕ} {l : List ℕ} {ms : List Name} → Optional y ms →
 maybe-last {y} {l} {ms} e a = rw (append-nil ms) at (maybe e a)
 
 -- the opcode
-pub opcode : {k x : ℕ} {w : Name} {l : List ℕ} {ns : List Name} → Spells k x w → Puts-names l ns → spelled (x ∷ l) ≡ headText (w ∷ ns)
+pub opcode : {k x : ℕ} {w : Name} {l : List ℕ} {ns : List Name} → NumberSpells k x w → Puts-names l ns → spelled (x ∷ l) ≡ headText (w ∷ ns)
 opcode s a = rw (text-of s, a .text) refl
 
 -- no name, one name, and one if it is wanted
 pub no-name : Optional 0 []
 no-name = record { text = unpacked-none }
 
-pub one-name : {k x y : ℕ} {w : Name} → y ≡ withDot x → Spells k x w → Optional y (w ∷ [])
+pub one-name : {k x y : ℕ} {w : Name} → y ≡ withDot x → NumberSpells k x w → Optional y (w ∷ [])
 one-name {k} {x} {y} {w} e s = record { text = rw (e, text-more 46 refl s, append-nil w) refl }
 
 pub record DotIf (t : Bool) (x y : ℕ) : Type 0 where
   pub number : y ≡ cond t (withDot x) 0
 
-pub if-name : {k x y : ℕ} {w : Name} {t : Bool} → DotIf t x y → Spells k x w → Optional y (braced t w)
+pub if-name : {k x y : ℕ} {w : Name} {t : Bool} → DotIf t x y → NumberSpells k x w → Optional y (braced t w)
 if-name {k} {x} {y} {w} {t} e s = go t (e .number)
   where
     go : (t : Bool) → y ≡ cond t (withDot x) 0 → Optional y (braced t w)
@@ -90,12 +90,12 @@ if-name {k} {x} {y} {w} {t} e s = go t (e .number)
 
 -- T(d) T(a) T(b) {sat} behind the opcode x, and a last name that may be left out
 pub record ThreeTypes (x : ℕ) (dtype atype btype : VideoType) (sat : Bool) (last : ℕ) (m : List ℕ) : Type 0 where
-  pub head : {k : ℕ} {w : Name} {ms : List Name} → Spells k x w → Optional last ms
+  pub head : {k : ℕ} {w : Name} {ms : List Name} → NumberSpells k x w → Optional last ms
       → spelled m ≡ headText (w ∷ videoTypeName dtype ∷ videoTypeName atype ∷ videoTypeName btype ∷ (braced sat (bytes "sat") ++ ms))
 
 -- T T CMP6 behind the opcode x, and a last name that may be left out
 pub record TwoTypes (x : ℕ) (atype btype : VideoType) (cmp : Cmp6) (last : ℕ) (m : List ℕ) : Type 0 where
-  pub head : {k : ℕ} {w : Name} {ms : List Name} → Spells k x w → Optional last ms
+  pub head : {k : ℕ} {w : Name} {ms : List Name} → NumberSpells k x w → Optional last ms
       → spelled m ≡ headText (w ∷ videoTypeName atype ∷ videoTypeName btype ∷ sixName cmp ∷ ms)
 
 -- ==== operands
@@ -114,8 +114,8 @@ backText (bare p) = []
 backText (part p n) = bytes "." ++ n
 
 pub record Shows (m : Piece) (o : OperandTree) : Type 0 where
-  pub first : Spells 6 (m .front) (frontText o)
-  pub second : Spells 6 (m .back) (backText o)
+  pub first : NumberSpells 6 (m .front) (frontText o)
+  pub second : NumberSpells 6 (m .back) (backText o)
 
 abbrev pub textOf : Piece → List ℕ
 textOf m = unpacked (m .front) ++ unpacked (m .back)
@@ -144,7 +144,7 @@ first-text {m} {o} s = rw (text-of (s .first), text-of (s .second)) (halves o)
 pub further-text : {m : Piece} {o : OperandTree} → Shows m o → textOf (furtherOf m) ≡ bytes ", " ++ operandText o
 further-text {m} {o} s = rw (text-two (s .first), text-of (s .second)) (ap (λ (l : List ℕ). 44 ∷ 32 ∷ l) (halves o))
   where
-    text-two : {x : ℕ} {w : List ℕ} → Spells 6 x w → unpacked (44 + radix * (32 + radix * x)) ≡ 44 ∷ 32 ∷ w
+    text-two : {x : ℕ} {w : List ℕ} → NumberSpells 6 x w → unpacked (44 + radix * (32 + radix * x)) ≡ 44 ∷ 32 ∷ w
     text-two s = text-more 44 refl (spells-more 32 refl (omega arith) s)
 
 -- as the last one
@@ -170,9 +170,9 @@ pub blank-text : textOf (record { front = 0; back = 0 }) ≡ []
 blank-text = rw unpacked-none refl
 
 -- a condition has nothing behind it
-pub condition-shows : {x : ℕ} (c : Condition) → Spells 6 x (operandText (conditionTree c)) → Shows (record { front = x; back = 0 }) (conditionTree c)
+pub condition-shows : {x : ℕ} (c : Condition) → NumberSpells 6 x (operandText (conditionTree c)) → Shows (record { front = x; back = 0 }) (conditionTree c)
 condition-shows {x} c s = go (c .inverted) s
   where
-    go : (t : Bool) → Spells 6 x (operandText (cond t (inverted (p (c .pred))) (bare (p (c .pred))))) → Shows (record { front = x; back = 0 }) (cond t (inverted (p (c .pred))) (bare (p (c .pred))))
-    go true s = record { first = s; second = written 6 [] refl }
-    go false s = record { first = s; second = written 6 [] refl }
+    go : (t : Bool) → NumberSpells 6 x (operandText (cond t (inverted (p (c .pred))) (bare (p (c .pred))))) → Shows (record { front = x; back = 0 }) (cond t (inverted (p (c .pred))) (bare (p (c .pred))))
+    go true s = record { first = s; second = spells-written 6 [] refl }
+    go false s = record { first = s; second = spells-written 6 [] refl }

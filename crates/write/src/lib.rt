@@ -30,7 +30,7 @@ ghost use mathlib.Core.Path.{_≡_};
 ghost use mathlib.Core.List.{_++_};
 ghost use Prim.Native.Nat.{_+_, _*_, _^_, _≤_, _<_};
 ghost use lib.ListN.{length};
-ghost use Rattle.base.specs.Pack.{radix, spelled, Spells};
+ghost use Rattle.base.specs.Pack.{radix, spelled, NumberSpells};
 ghost use Rattle.record.specs.Registers.{operandPlace, double, r, p};
 ghost use Rattle.record.specs.declared.Instruction.the-variants.{Arithmetic, Vset, VsetLanes, ArithmeticLanes, Set, Setp, Selp, Slct};
 ghost use Rattle.rules.specs.Shape.{bare, part, numberText, registerText, headText, operandText};
@@ -69,7 +69,7 @@ fn before(b: u8, x: u64) -> u64
 }
 
 fn number_text(n: u16) -> u64
-    ensures { λ m. ⌜ Spells 3 m (numberText n) ⌝ }
+    ensures { λ m. ⌜ NumberSpells 3 m (numberText n) ⌝ }
 {
     let n = n as u64;
     let ones = text::digit(n) as u64;
@@ -84,25 +84,25 @@ fn number_text(n: u16) -> u64
 }
 
 fn word_text(w: Word) -> u64
-    ensures { λ m. ⌜ Spells 5 m (registerText (r w)) ⌝ }
+    ensures { λ m. ⌜ NumberSpells 5 m (registerText (r w)) ⌝ }
 {
     before(b'%', before(b'r', number_text(w.0)))
 }
 
 fn double_text(d: Double) -> u64
-    ensures { λ m. ⌜ Spells 6 m (registerText (double (d .0))) ⌝ }
+    ensures { λ m. ⌜ NumberSpells 6 m (registerText (double (d .0))) ⌝ }
 {
     before(b'%', before(b'r', before(b'd', number_text(d.0))))
 }
 
 fn pred_text(q: Pred) -> u64
-    ensures { λ m. ⌜ Spells 5 m (registerText (p q)) ⌝ }
+    ensures { λ m. ⌜ NumberSpells 5 m (registerText (p q)) ⌝ }
 {
     before(b'%', before(b'p', number_text(q.0)))
 }
 
 fn operand_text(o: Operand) -> u64
-    ensures { λ m. ⌜ Spells 6 m (registerText (operandPlace o)) ⌝ }
+    ensures { λ m. ⌜ NumberSpells 6 m (registerText (operandPlace o)) ⌝ }
 {
     match o {
         Operand::Word(w) => word_text(w),
@@ -111,7 +111,7 @@ fn operand_text(o: Operand) -> u64
 }
 
 fn condition_text(c: Condition) -> u64
-    ensures { λ m. ⌜ Spells 6 m (operandText (conditionTree c)) ⌝ }
+    ensures { λ m. ⌜ NumberSpells 6 m (operandText (conditionTree c)) ⌝ }
 {
     if c.inverted {
         return before(b'!', pred_text(c.pred));

@@ -1,6 +1,6 @@
 use Rattle.changes.proofs.registers.Kinds as kinds
 use Rattle.changes.proofs.registers.Reads as reads
-use Rattle.changes.specs.Registers.{Outcome, answers-one}
+use Rattle.changes.specs.Registers.{PrintOutcome, answers-one}
 use Rattle.changes.specs.declared.Printed.{Printed}
 use Rattle.base.specs.Promise.{one-outcome}
 use mathlib.Core.Path.{_≡_, ap}
@@ -58,4 +58,4 @@ pub registers-one-outcome :
     → (x ≡ y) × (now (s .1 .1 .1 .0) ≡ now (t .1 .1 .1 .0))
 registers-one-outcome κs a x y s t p q =
     let z = one-outcome p q in
-    (answers-one x y (ap (λ (o : Outcome). o .answer) z), ap (λ (o : Outcome). o .buffer) z)
+    (answers-one x y (ap (λ (o : PrintOutcome). o .answer) z), ap (λ (o : PrintOutcome). o .buffer) z)

@@ -1,4 +1,4 @@
-use Rattle.fills.specs.Fills.{choiceOf}
+use Rattle.fills.specs.Fills.{choiceFrom}
 use borrow.Author.Needs.{needs}
 use Rattle.fills.proofs.choice_of.Statement.{statement}
 use Rattle.fills.proofs.choice_of.Tie as tie
@@ -25,7 +25,7 @@ choice-by-requires : tie.Need-choice-by-requires
 choice-by-requires c κs = search needs
 
 returns : tie.Need-returns
-unfolding choiceOf
+unfolding choiceFrom
 returns c =
     simp (
       c .choice-by .ensures,

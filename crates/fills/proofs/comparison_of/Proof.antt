@@ -1,4 +1,4 @@
-use Rattle.fills.specs.Fills.{comparisonOf}
+use Rattle.fills.specs.Fills.{comparisonFrom}
 use borrow.Author.Needs.{needs}
 use Rattle.fills.proofs.comparison_of.Statement.{statement}
 use Rattle.fills.proofs.comparison_of.Tie as tie
@@ -28,7 +28,7 @@ comparison-by-requires : tie.Need-comparison-by-requires
 comparison-by-requires c κs = search needs
 
 returns : tie.Need-returns
-unfolding comparisonOf
+unfolding comparisonFrom
 returns c =
     simp (
       c .comparison-by .ensures,

@@ -1,4 +1,4 @@
-use Rattle.fills.specs.Fills.{lanesOf}
+use Rattle.fills.specs.Fills.{lanesFrom}
 use borrow.Author.Needs.{needs}
 use Rattle.fills.proofs.lanes_of.Statement.{statement}
 use Rattle.fills.proofs.lanes_of.Tie as tie
@@ -34,7 +34,7 @@ lanes-by-requires : tie.Need-lanes-by-requires
 lanes-by-requires c κs = search needs
 
 returns : tie.Need-returns
-unfolding lanesOf
+unfolding lanesFrom
 returns c =
     simp (
       c .lanes-by .ensures,

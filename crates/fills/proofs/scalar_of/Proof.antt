@@ -1,4 +1,4 @@
-use Rattle.fills.specs.Fills.{scalarOf}
+use Rattle.fills.specs.Fills.{scalarFrom}
 use borrow.Author.Needs.{needs}
 use Rattle.fills.proofs.scalar_of.Statement.{statement}
 use Rattle.fills.proofs.scalar_of.Tie as tie
@@ -34,7 +34,7 @@ scalar-by-requires : tie.Need-scalar-by-requires
 scalar-by-requires c κs = search needs
 
 returns : tie.Need-returns
-unfolding scalarOf
+unfolding scalarFrom
 returns c =
     simp (
       c .scalar-by .ensures,

@@ -1,4 +1,4 @@
-use Rattle.heads.specs.Rows.{laneArithmeticFrom, laneArithmeticOf}
+use Rattle.heads.specs.Rows.{laneArithmeticTyped, laneArithmeticRow}
 use borrow.Author.Needs.{needs}
 use Rattle.heads.proofs.read_lane_arithmetic.Statement.{statement}
 use Rattle.heads.proofs.read_lane_arithmetic.Tie as tie
@@ -19,7 +19,7 @@ lane-arithmetic-by-requires : tie.Need-lane-arithmetic-by-requires
 lane-arithmetic-by-requires c κs = search needs
 
 returns : tie.Need-returns
-unfolding laneArithmeticOf laneArithmeticFrom
+unfolding laneArithmeticRow laneArithmeticTyped
 returns c =
     rw (← c .before .before .before .before .before .before .read-typed .ensures, c .before .before .before .before .t .given .1, ← c .before .name .ensures)
     (c .lane-arithmetic-by .ensures)
@@ -28,7 +28,7 @@ enum-known-t-2 : tie.Need-enum-known-t-2
 enum-known-t-2 c = search needs
 
 returns-2 : tie.Need-returns-2
-unfolding laneArithmeticOf laneArithmeticFrom
+unfolding laneArithmeticRow laneArithmeticTyped
 returns-2 c = rw (← c .before .before .before .read-typed .ensures, c .before .t2 .given .1)
 
 pub read-lane-arithmetic-spec : {M : Type 1} → statement M

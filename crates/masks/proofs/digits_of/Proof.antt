@@ -1,4 +1,4 @@
-use Rattle.masks.specs.Masks.{digitsOf}
+use Rattle.masks.specs.Masks.{digitsNamed}
 use borrow.Author.Tests.{eq-eqb, ne-eqb}
 use borrow.Author.Needs.{needs}
 use Rattle.masks.proofs.digits_of.Statement.{statement}
@@ -11,12 +11,12 @@ digits-number-requires : tie.Need-digits-number-requires
 digits-number-requires c κs = search needs
 
 returns : tie.Need-returns
-unfolding digitsOf
+unfolding digitsNamed
 returns c =
     rw (← c .before .before .digits-in .ensures, ← c .before .digits-number .ensures .code, eq-eqb _ _ (c .if1 .taken))
 
 returns-2 : tie.Need-returns-2
-unfolding digitsOf
+unfolding digitsNamed
 returns-2 c =
     rw (← c .before .before .digits-in .ensures, ← c .before .digits-number .ensures .code, ne-eqb _ _ (c .if1 .left))
 

@@ -6,7 +6,7 @@ use Rattle.base.specs.Promise.{one-outcome}
 use Prim.Native.Nat.{ℕ}
 use Rattle.scan.proofs.further.Kinds as kinds
 use Rattle.scan.proofs.further.Reads as reads
-use Rattle.scan.specs.Runs.{sum}
+use Rattle.scan.specs.Runs.{cappedSum}
 use borrow.Author.Tests.{le-leb, lt-leb}
 use borrow.Author.Needs.{needs}
 use Rattle.scan.proofs.further.Statement.{statement}
@@ -19,13 +19,13 @@ add-result : tie.Need-add-result
 add-result c = search needs
 
 returns : tie.Need-returns
-unfolding sum
+unfolding cappedSum
 returns c =
     simp
     (le-leb _ _ (c .if1 .taken))
 
 returns-2 : tie.Need-returns-2
-unfolding sum
+unfolding cappedSum
 returns-2 c =
     simp
     (lt-leb _ _ (c .if1 .left))

@@ -1,4 +1,4 @@
-use Rattle.scan.specs.Registers.{numbered}
+use Rattle.scan.specs.Registers.{registerFrom}
 use borrow.Author.Needs.{needs}
 use Rattle.scan.proofs.numbered.Statement.{statement}
 use Rattle.scan.proofs.numbered.Tie as tie
@@ -25,7 +25,7 @@ add-t14 : tie.Need-add-t14
 add-t14 c = search needs
 
 returns : tie.Need-returns
-unfolding numbered
+unfolding registerFrom
 returns c =
     simp (
       c .place-in .ensures,
@@ -33,7 +33,7 @@ returns c =
     )
 
 returns-2 : tie.Need-returns-2
-unfolding numbered
+unfolding registerFrom
 returns-2 c =
     simp
     (c .before .v2 .given .1)

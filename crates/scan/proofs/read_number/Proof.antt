@@ -1,4 +1,4 @@
-use Rattle.scan.specs.Numbers.{numberOf}
+use Rattle.scan.specs.Numbers.{numberFound}
 use borrow.Author.Needs.{needs}
 use Rattle.scan.proofs.read_number.Statement.{statement}
 use Rattle.scan.proofs.read_number.Tie as tie
@@ -28,7 +28,7 @@ number-by-requires : tie.Need-number-by-requires
 number-by-requires c κs = search needs
 
 returns : tie.Need-returns
-unfolding numberOf
+unfolding numberFound
 returns c =
     simp (
       c .number-by .ensures,

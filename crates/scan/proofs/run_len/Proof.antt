@@ -13,12 +13,12 @@ use native.Mathlib.Omega.{arith}
 use borrow.Author.Needs.{needs}
 use borrow.Author.Tests.{not-true, not-false}
 use lib.ListN.{length, drop}
-use Rattle.scan.specs.Runs.{run, inClass}
+use Rattle.scan.specs.Runs.{runLength, inClass}
 use Rattle.scan.proofs.run_len.Statement.{statement}
 use Rattle.scan.proofs.run_len.Tie as tie
 
 abbrev Inv-loop : tie.InvT-loop
-Inv-loop c s i₀ i = (i ≤ length s) × (run (inClass c) s ≡ i + run (inClass c) (drop i s))
+Inv-loop c s i₀ i = (i ≤ length s) × (runLength (inClass c) s ≡ i + runLength (inClass c) (drop i s))
 
 abbrev μ-loop : tie.MeasureT-loop
 μ-loop c s i₀ i = length s - i

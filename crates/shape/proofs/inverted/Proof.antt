@@ -1,4 +1,4 @@
-use Rattle.shape.specs.Operand.{inverted}
+use Rattle.shape.specs.Operand.{invertedBy}
 use borrow.Author.Needs.{needs}
 use Rattle.shape.proofs.inverted.Statement.{statement}
 use Rattle.shape.proofs.inverted.Tie as tie
@@ -22,13 +22,13 @@ add-t10 : tie.Need-add-t10
 add-t10 c = search needs
 
 returns : tie.Need-returns
-unfolding inverted
+unfolding invertedBy
 returns c =
     simp
     (c .before .r .given .1)
 
 returns-2 : tie.Need-returns-2
-unfolding inverted
+unfolding invertedBy
 returns-2 c =
     simp
     (c .before .r2 .given .1)

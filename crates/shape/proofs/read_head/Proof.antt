@@ -13,7 +13,7 @@ use Rattle.signs.specs.Bytes.{isNameByte}
 use Rattle.base.specs.Pack.{codeOf}
 use Rattle.tree.specs.Seen.{namesKept}
 use Rattle.tree.specs.declared.Head.{Head}
-use Rattle.scan.specs.Runs.{run, sum}
+use Rattle.scan.specs.Runs.{runLength, cappedSum}
 use Rattle.shape.specs.Turns.{mostTurns}
 use Rattle.shape.specs.TurnLaws.{goes-on, stops, runs-out}
 use Rattle.shape.specs.declared.Names.{Names}
@@ -23,11 +23,11 @@ use Rattle.shape.proofs.read_head.Tie as tie
 
 -- ==== one turn, by the length of the name
 
-none-turn : (w : List ℕ) (st : Names) (m b : ℕ) → m ≡ run isNameByte w → b ≡ getD w m 0 → eqb m 0 ≡ true → nameTurn w st ≡ namesBy (turnNamed (st .place) m b) (st .head)
+none-turn : (w : List ℕ) (st : Names) (m b : ℕ) → m ≡ runLength isNameByte w → b ≡ getD w m 0 → eqb m 0 ≡ true → nameTurn w st ≡ namesBy (turnNamed (st .place) m b) (st .head)
 unfolding nameTurn
 none-turn w st m b q h e = rw (← q, ← h) (none-apart st m b (codeOf (take m w)) e)
 
-name-turn : (w : List ℕ) (st : Names) (m b : ℕ) → m ≡ run isNameByte w → b ≡ getD w m 0 → eqb m 0 ≡ false → nameTurn w st ≡ namesBy (turnNamed (st .place) m b) (pushedName (st .head) (codeOf (take m w)))
+name-turn : (w : List ℕ) (st : Names) (m b : ℕ) → m ≡ runLength isNameByte w → b ≡ getD w m 0 → eqb m 0 ≡ false → nameTurn w st ≡ namesBy (turnNamed (st .place) m b) (pushedName (st .head) (codeOf (take m w)))
 unfolding nameTurn
 name-turn w st m b q h e = rw (← q, ← h) (name-apart st m b (codeOf (take m w)) e)
 
@@ -35,11 +35,11 @@ none-stops : (p m b : ℕ) → eqb m 0 ≡ true → turnNamed p m b .more ≡ fa
 unfolding turnNamed
 none-stops p m b e = rw e
 
-stored : (n : ℕ) (at : List ℕ) (x : ℕ) → n < namesKept → pushedName (record { n = n; at = at }) x ≡ record { n = sum n 1; at = set at n x }
+stored : (n : ℕ) (at : List ℕ) (x : ℕ) → n < namesKept → pushedName (record { n = n; at = at }) x ≡ record { n = cappedSum n 1; at = set at n x }
 unfolding pushedName
 stored n at x h = simp (lt-leb _ _ h)
 
-unstored : (n : ℕ) (at : List ℕ) (x : ℕ) → namesKept ≤ n → pushedName (record { n = n; at = at }) x ≡ record { n = sum n 1; at = at }
+unstored : (n : ℕ) (at : List ℕ) (x : ℕ) → namesKept ≤ n → pushedName (record { n = n; at = at }) x ≡ record { n = cappedSum n 1; at = at }
 unfolding pushedName
 unstored n at x h = simp (le-leb _ _ h)
 
@@ -118,7 +118,7 @@ loop-again c =
     let h : Head = record { n = l .n; at = l .at } in
     let st : Names = namesBy (l .t) h in
     let x = c .before .before .before .name-code .result in
-    let kept : pushedName h x ≡ record { n = sum (l .n) 1; at = c .if3 .at } =
+    let kept : pushedName h x ≡ record { n = cappedSum (l .n) 1; at = c .if3 .at } =
     ⊎-elim (λ w. rw (w .1) (stored (l .n) (l .at) x (w .0 .taken))) (λ w. rw (w .1) (unstored (l .n) (l .at) x (w .0 .left))) (c .if3 .came) in
     let e = name-turn (now (l .w)) st _ _ (c .before .before .before .before .before .before .before .run-len .ensures) (c .before .before .before .before .before .before .byte .ensures) (ne-eqb _ _ (c .before .before .before .before .if2 .left)) in
     let on = goes-on (λ (x : Names). x .more) (λ (x : Names). x .step) nameTurn s mostTurns (l .-turn) (now (l .w)) st (omega arith) (not-false _ (c .before .before .before .before .before .before .before .before .if1 .left)) (l .inv .1) in

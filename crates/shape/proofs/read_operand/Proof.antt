@@ -1,4 +1,4 @@
-use Rattle.shape.specs.Operand.{operandOf}
+use Rattle.shape.specs.Operand.{operandScanned}
 use borrow.Author.Tests.{eq-eqb, ne-eqb}
 use borrow.Author.Needs.{needs}
 use Rattle.shape.proofs.read_operand.Statement.{statement}
@@ -17,7 +17,7 @@ inverted-requires : tie.Need-inverted-requires
 inverted-requires c κs = search needs
 
 returns : tie.Need-returns
-unfolding operandOf
+unfolding operandScanned
 returns c =
     rw (
       ← c .before .before .before .before .byte .ensures,
@@ -34,7 +34,7 @@ second-requires : tie.Need-second-requires
 second-requires c κs = search needs
 
 returns-2 : tie.Need-returns-2
-unfolding operandOf
+unfolding operandScanned
 returns-2 c =
     rw (
       ← c .before .before .before .before .before .byte .ensures,
@@ -46,7 +46,7 @@ returns-2 c =
     (c .second .ensures)
 
 returns-3 : tie.Need-returns-3
-unfolding operandOf
+unfolding operandScanned
 returns-3 c =
     rw (
       ← c .before .before .before .before .byte .ensures,
@@ -63,7 +63,7 @@ first-requires : tie.Need-first-requires
 first-requires c κs = search needs
 
 returns-4 : tie.Need-returns-4
-unfolding operandOf
+unfolding operandScanned
 returns-4 c =
     rw (
       ← c .before .before .before .before .byte .ensures,

@@ -12,24 +12,24 @@ use Rattle.tree.specs.Seen.{operandsKept}
 use Rattle.tree.specs.declared.Tree.{Tree}
 use Rattle.tree.specs.declared.Slot.{Slot}
 use Rattle.tree.specs.declared.Operands.{Operands}
-use Rattle.scan.specs.Runs.{sum}
+use Rattle.scan.specs.Runs.{cappedSum}
 use Rattle.shape.specs.Turns.{mostTurns}
 use Rattle.shape.specs.TurnLaws.{goes-on, stops, runs-out}
 use Rattle.shape.specs.declared.Listed.{Listed}
 use Rattle.shape.specs.declared.OperandRead.{OperandRead}
 use Rattle.shape.specs.declared.OperandRead.the-variants.{Got, Bad}
-use Rattle.shape.specs.Operand.{operandOf}
-use Rattle.shape.specs.Operands.{operandsOf, operandTurns, operandTurn, pushedTree, listedBy, turnBy, got-apart, bad-apart}
+use Rattle.shape.specs.Operand.{operandScanned}
+use Rattle.shape.specs.Operands.{operandsScanned, operandTurns, operandTurn, pushedTree, listedBy, turnBy, got-apart, bad-apart}
 use Rattle.shape.proofs.read_operands.Statement.{statement}
 use Rattle.shape.proofs.read_operands.Tie as tie
 
 -- ==== one turn, by what was read
 
-got-turn : (w : List ℕ) (st : Listed) (r : OperandRead) (t : Tree) (n : ℕ) → r ≡ operandOf w → r ≡ Got t n → operandTurn w st ≡ listedBy (turnBy (st .place) r w) (pushedTree (st .operands) t)
+got-turn : (w : List ℕ) (st : Listed) (r : OperandRead) (t : Tree) (n : ℕ) → r ≡ operandScanned w → r ≡ Got t n → operandTurn w st ≡ listedBy (turnBy (st .place) r w) (pushedTree (st .operands) t)
 unfolding operandTurn
 got-turn w st r t n q g = rw (← q, g) (got-apart st t n w)
 
-bad-turn : (w : List ℕ) (st : Listed) (r : OperandRead) (p : ℕ) → r ≡ operandOf w → r ≡ Bad p → operandTurn w st ≡ listedBy (turnBy (st .place) r w) (st .operands)
+bad-turn : (w : List ℕ) (st : Listed) (r : OperandRead) (p : ℕ) → r ≡ operandScanned w → r ≡ Bad p → operandTurn w st ≡ listedBy (turnBy (st .place) r w) (st .operands)
 unfolding operandTurn
 bad-turn w st r p q g = rw (← q, g) (bad-apart st p w)
 
@@ -37,11 +37,11 @@ bad-stops : (p : ℕ) (r : OperandRead) (w : List ℕ) (q : ℕ) → r ≡ Bad q
 unfolding turnBy
 bad-stops p r w q g = rw g
 
-stored : (n : ℕ) (at : List Slot) (t : Tree) → n < operandsKept → pushedTree (record { n = n; at = at }) t ≡ record { n = sum n 1; at = set at n (record { tree = t }) }
+stored : (n : ℕ) (at : List Slot) (t : Tree) → n < operandsKept → pushedTree (record { n = n; at = at }) t ≡ record { n = cappedSum n 1; at = set at n (record { tree = t }) }
 unfolding pushedTree
 stored n at t h = simp (lt-leb _ _ h)
 
-unstored : (n : ℕ) (at : List Slot) (t : Tree) → operandsKept ≤ n → pushedTree (record { n = n; at = at }) t ≡ record { n = sum n 1; at = at }
+unstored : (n : ℕ) (at : List Slot) (t : Tree) → operandsKept ≤ n → pushedTree (record { n = n; at = at }) t ≡ record { n = cappedSum n 1; at = at }
 unfolding pushedTree
 unstored n at t h = simp (le-leb _ _ h)
 
@@ -49,13 +49,13 @@ unstored n at t h = simp (le-leb _ _ h)
 
 abbrev Inv-loop : tie.InvT-loop
 Inv-loop s at₀ n₀ w₀ t₀ -turn₀ at n w t -turn =
-    (-turn ≤ mostTurns) × (operandsOf s ≡ operandTurns (mostTurns - -turn) w (listedBy t (record { n = n; at = at })))
+    (-turn ≤ mostTurns) × (operandsScanned s ≡ operandTurns (mostTurns - -turn) w (listedBy t (record { n = n; at = at })))
 
 abbrev μ-loop : tie.MeasureT-loop
 μ-loop s at₀ n₀ w₀ t₀ -turn₀ at n w t -turn = mostTurns - -turn
 
 loop-holds : tie.Need-loop-holds Inv-loop μ-loop
-unfolding operandsOf
+unfolding operandsScanned
 loop-holds c = (omega arith, refl)
 
 with-operands-requires : tie.Need-with-operands-requires Inv-loop μ-loop
@@ -66,7 +66,7 @@ returns c =
     let l = c .before .before .before .before .loop in
     let st : Listed = listedBy (l .t) (record { n = l .n; at = l .at }) in
     rw (c .with-operands .ensures)
-    (stops (λ (x : Listed). x .more) (λ (x : Listed). x .step) operandTurn (operandsOf (now (c .before .before .before .before .before .before .args .s))) (mostTurns - l .-turn) (now (l .w)) st (not-true _ (c .before .if1 .taken)) (l .inv .1))
+    (stops (λ (x : Listed). x .more) (λ (x : Listed). x .step) operandTurn (operandsScanned (now (c .before .before .before .before .before .before .args .s))) (mostTurns - l .-turn) (now (l .w)) st (not-true _ (c .before .if1 .taken)) (l .inv .1))
 
 read-operand-requires : tie.Need-read-operand-requires Inv-loop μ-loop
 read-operand-requires c κs = search needs
@@ -86,7 +86,7 @@ with-operands-requires-2 c κs = search needs
 returns-2 : tie.Need-returns-2 Inv-loop μ-loop
 returns-2 c =
     let l = c .before .before .before .before .before .before .before .before .loop in
-    let s = operandsOf (now (c .before .before .before .before .before .before .before .before .before .before .args .s)) in
+    let s = operandsScanned (now (c .before .before .before .before .before .before .before .before .before .before .args .s)) in
     let st : Listed = listedBy (l .t) (record { n = l .n; at = l .at }) in
     let r = c .before .before .before .before .read-operand .result in
     let bad = c .before .enum-told .given .1 in
@@ -117,13 +117,13 @@ loop-less c = omega arith
 loop-again : tie.Need-loop-again Inv-loop μ-loop
 loop-again c =
     let l = c .before .before .before .before .before .before .before .before .before .before .before .loop in
-    let s = operandsOf (now (c .before .before .before .before .before .before .before .before .before .before .before .before .before .args .s)) in
+    let s = operandsScanned (now (c .before .before .before .before .before .before .before .before .before .before .before .before .before .args .s)) in
     let o : Operands = record { n = l .n; at = l .at } in
     let st : Listed = listedBy (l .t) o in
     let r = c .before .before .before .before .before .before .before .read-operand .result in
     let got = c .before .before .before .before .r .given .1 in
     let tree = c .before .before .before .before .r .given .0 .0 in
-    let kept : pushedTree o tree ≡ record { n = sum (l .n) 1; at = c .if2 .at } =
+    let kept : pushedTree o tree ≡ record { n = cappedSum (l .n) 1; at = c .if2 .at } =
     ⊎-elim (λ w. rw (w .1) (stored (l .n) (l .at) tree (w .0 .taken))) (λ w. rw (w .1) (unstored (l .n) (l .at) tree (w .0 .left))) (c .if2 .came) in
     let e = got-turn (now (l .w)) st r tree _ (c .before .before .before .before .before .before .before .read-operand .ensures) got ∙ ap (listedBy (turnBy (st .place) r (now (l .w)))) kept in
     let on = goes-on (λ (x : Listed). x .more) (λ (x : Listed). x .step) operandTurn s mostTurns (l .-turn) (now (l .w)) st (omega arith) (not-false _ (c .before .before .before .before .before .before .before .before .if1 .left)) (l .inv .1) in
@@ -137,7 +137,7 @@ returns-3 c =
     let l = c .before .before .loop in
     let st : Listed = listedBy (l .t) (record { n = l .n; at = l .at }) in
     rw (c .with-operands3 .ensures)
-    (runs-out (λ (x : Listed). x .more) (λ (x : Listed). x .step) operandTurn (operandsOf (now (c .before .before .before .before .args .s))) mostTurns (l .-turn) (now (l .w)) st (omega arith) (l .inv .1))
+    (runs-out (λ (x : Listed). x .more) (λ (x : Listed). x .step) operandTurn (operandsScanned (now (c .before .before .before .before .args .s))) mostTurns (l .-turn) (now (l .w)) st (omega arith) (l .inv .1))
 
 pub read-operands-spec : {M : Type 1} → statement M
 read-operands-spec =

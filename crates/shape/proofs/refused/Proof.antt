@@ -1,4 +1,4 @@
-use Rattle.shape.specs.Line.{refused}
+use Rattle.shape.specs.Line.{stoppedAt}
 use borrow.Author.Needs.{needs}
 use Rattle.shape.proofs.refused.Statement.{statement}
 use Rattle.shape.proofs.refused.Tie as tie
@@ -7,7 +7,7 @@ no-parts-requires : tie.Need-no-parts-requires
 no-parts-requires c κs = search needs
 
 returns : tie.Need-returns
-unfolding refused
+unfolding stoppedAt
 returns c =
     simp
     (c .no-parts .ensures)

@@ -1,4 +1,4 @@
-use Rattle.base.specs.PackLaws.{written}
+use Rattle.base.specs.PackLaws.{spells-written}
 use Rattle.write.specs.Pieces.{if-name}
 use Rattle.signs.specs.Text.{bytes}
 use mathlib.Core.Path.{refl}
@@ -16,7 +16,7 @@ three-types-requires : tie.Need-three-types-requires
 three-types-requires c κs = tt
 
 returns : tie.Need-returns
-returns c = c .three-types .ensures .head (c .before .before .lane-arith-number .ensures) (if-name (c .before .dot-if .ensures) (written 3 (bytes "add") refl))
+returns c = c .three-types .ensures .head (c .before .before .lane-arith-number .ensures) (if-name (c .before .dot-if .ensures) (spells-written 3 (bytes "add") refl))
 
 pub arithmetic-lanes-head-spec : {M : Type 1} → statement M
 arithmetic-lanes-head-spec =

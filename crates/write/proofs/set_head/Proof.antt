@@ -1,4 +1,4 @@
-use Rattle.base.specs.PackLaws.{written}
+use Rattle.base.specs.PackLaws.{spells-written}
 use Rattle.write.specs.Pieces.{end, name, maybe-both, opcode, if-name}
 use Rattle.signs.specs.Text.{bytes}
 use mathlib.Core.Path.{refl}
@@ -31,9 +31,9 @@ dot-requires-3 : tie.Need-dot-requires-3
 dot-requires-3 c κs = search needs
 
 returns : tie.Need-returns
-returns c = opcode (written 3 (bytes "set") refl)
+returns c = opcode (spells-written 3 (bytes "set") refl)
     (name (c .before .before .before .before .before .before .dot .ensures) (c .before .before .before .before .before .before .before .cmp-number .ensures)
-    (maybe-both (c .before .before .before .before .before .combination-modifier .ensures) (if-name (c .before .before .before .before .dot-if .ensures) (written 3 (bytes "ftz") refl))
+    (maybe-both (c .before .before .before .before .before .combination-modifier .ensures) (if-name (c .before .before .before .before .dot-if .ensures) (spells-written 3 (bytes "ftz") refl))
     (name (c .before .before .dot2 .ensures) (c .before .before .before .set-type-number .ensures) (name (c .dot3 .ensures) (c .before .type-number .ensures) end))))
 
 pub set-head-spec : {M : Type 1} → statement M

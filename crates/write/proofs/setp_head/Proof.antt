@@ -1,4 +1,4 @@
-use Rattle.base.specs.PackLaws.{written}
+use Rattle.base.specs.PackLaws.{spells-written}
 use Rattle.write.specs.Pieces.{end, skip, name, maybe-both, opcode, if-name}
 use Rattle.signs.specs.Text.{bytes}
 use mathlib.Core.Path.{refl}
@@ -25,9 +25,9 @@ dot-requires-2 : tie.Need-dot-requires-2
 dot-requires-2 c κs = search needs
 
 returns : tie.Need-returns
-returns c = opcode (written 4 (bytes "setp") refl)
+returns c = opcode (spells-written 4 (bytes "setp") refl)
     (name (c .before .before .before .before .dot .ensures) (c .before .before .before .before .before .cmp-number .ensures)
-    (maybe-both (c .before .before .before .combination-modifier .ensures) (if-name (c .before .before .dot-if .ensures) (written 3 (bytes "ftz") refl))
+    (maybe-both (c .before .before .before .combination-modifier .ensures) (if-name (c .before .before .dot-if .ensures) (spells-written 3 (bytes "ftz") refl))
     (name (c .dot2 .ensures) (c .before .type-number .ensures) (skip end))))
 
 pub setp-head-spec : {M : Type 1} → statement M

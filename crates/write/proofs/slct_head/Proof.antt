@@ -1,4 +1,4 @@
-use Rattle.base.specs.PackLaws.{written}
+use Rattle.base.specs.PackLaws.{spells-written}
 use Rattle.write.specs.Pieces.{end, skip, name, maybe, opcode, if-name}
 use Rattle.signs.specs.Text.{bytes}
 use mathlib.Core.Path.{refl}
@@ -29,14 +29,14 @@ dot-requires-3 c κs = search needs
 
 returns : tie.Need-returns
 returns c = rw (c .before .enum-told .given .1)
-    (opcode (written 4 (bytes "slct") refl)
-    (name (c .before .before .before .dot .ensures) (c .before .before .before .before .type-number .ensures) (name (c .dot2 .ensures) (written 3 (bytes "s32") refl) (skip (skip (skip end))))))
+    (opcode (spells-written 4 (bytes "slct") refl)
+    (name (c .before .before .before .dot .ensures) (c .before .before .before .before .type-number .ensures) (name (c .dot2 .ensures) (spells-written 3 (bytes "s32") refl) (skip (skip (skip end))))))
 
 returns-2 : tie.Need-returns-2
 returns-2 c = rw (c .before .before .before .ctype .given .1)
-    (opcode (written 4 (bytes "slct") refl)
-    (maybe (if-name (c .before .dot-if .ensures) (written 3 (bytes "ftz") refl))
-    (name (c .before .before .before .before .before .dot .ensures) (c .before .before .before .before .before .before .type-number .ensures) (name (c .dot3 .ensures) (written 3 (bytes "f32") refl) (skip (skip end))))))
+    (opcode (spells-written 4 (bytes "slct") refl)
+    (maybe (if-name (c .before .dot-if .ensures) (spells-written 3 (bytes "ftz") refl))
+    (name (c .before .before .before .before .before .dot .ensures) (c .before .before .before .before .before .before .type-number .ensures) (name (c .dot3 .ensures) (spells-written 3 (bytes "f32") refl) (skip (skip end))))))
 
 pub slct-head-spec : {M : Type 1} → statement M
 slct-head-spec =

@@ -1,4 +1,4 @@
-use Rattle.base.specs.PackLaws.{written}
+use Rattle.base.specs.PackLaws.{spells-written}
 use Rattle.write.specs.Pieces.{if-name}
 use Rattle.signs.specs.Text.{bytes}
 use mathlib.Core.Path.{refl}
@@ -16,7 +16,7 @@ two-types-requires : tie.Need-two-types-requires
 two-types-requires c κs = tt
 
 returns : tie.Need-returns
-returns c = c .two-types .ensures .head (c .before .before .lanes-number .ensures) (if-name (c .before .dot-if .ensures) (written 3 (bytes "add") refl))
+returns c = c .two-types .ensures .head (c .before .before .lanes-number .ensures) (if-name (c .before .dot-if .ensures) (spells-written 3 (bytes "add") refl))
 
 pub vset-lanes-head-spec : {M : Type 1} → statement M
 vset-lanes-head-spec =
