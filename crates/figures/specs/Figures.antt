@@ -1,12 +1,14 @@
 -- Document 01, "Bench figures": the starred ones; fourteen for request T-01, which gives none itself: they came with its issue; sixteen for T-02, which gives the first two:
--- twelve came with its issue, the last two are ours. One list with one claim. Each is a record with its files, through `run`, and the whole outcome.
+-- twelve came with its issue, the last two are ours. One list with one claim. Each is a line with its record and its files, through `run`, and the whole outcome.
 -- `%r0`, `%r1` and `%r2` hold a, b and c; d is `%r3`. Predicate 0 holds c of setp; its places are 1 and 2.
 use Prim.Native.Nat.{ℕ}
+use Prim.Native.String.{String}
 use mathlib.Core.Path.{_≡_, refl}
 use mathlib.Core.Bool.{Bool, true, false}
 use mathlib.Core.List.{List, [], _∷_, map}
 use lib.ListN.{replicate}
 use lib.Ieee.{lt, eq, ofBits, ofFields, odd}
+use Rattle.signs.specs.Text.{bytes}
 use Rattle.record.specs.Refusals.{isLegal}
 use Rattle.record.specs.Operands.{fullMask, defaultA, defaultB}
 use Rattle.record.specs.declared.Word.{Word}
@@ -46,14 +48,17 @@ use Rattle.record.specs.declared.Record.{Record}
 use Rattle.rules.specs.Numbers.{exactOf, holdsZ}
 use Rattle.rules.specs.Execution.{selectedOf, formOf, arithmeticOf, laneHolds, lanesOf, laneResult, arithmeticLanesOf, valueOf, comparisonOf, notBelowZero}
 use Rattle.record.specs.Registers.{Files, files}
-use Rattle.rules.specs.Executing.{done, outcome, combinedOf, testOf, writes, after, sizesFit, predsFit, guardHolds, run}
+use Rattle.rules.specs.StandardLine.{standard}
+use Rattle.rules.specs.Executing.{Outcome, done, outcome, combinedOf, testOf, writes, after, sizesFit, predsFit, guardHolds, run}
 
+-- a line, the record that it spells, the files before it and those that it leaves
 pub record Figure : Type 0 where
-  pub line : Record
+  pub line : String
+  pub spelled : Record
   pub before : Files
   pub left : Files
 
--- ---- how the figures' lines are written as records
+-- ---- the records that the figures' lines spell
 
 abbrev always : Instruction → Record
 always i = record { guard = Always; instruction = i }
@@ -76,38 +81,33 @@ abbrev lanes : LaneWidth → VideoType → VideoType → Bool → Mask → Digit
 lanes w atype btype add mask asel =
     record { width = w; atype = atype; btype = btype; add = add; d = r 3; mask = mask; a = r 0; asel = asel; b = r 1; bsel = defaultB w; c = r 2 }
 
-abbrev lanesLine : LaneWidth → VideoType → Cmp6 → Bool → Mask → Digits → Record
-lanesLine w atype cmp add mask asel = always (VsetLanes cmp (lanes w atype U32 add mask asel))
+abbrev vsetRecord : LaneWidth → VideoType → Cmp6 → Bool → Mask → Digits → Record
+vsetRecord w atype cmp add mask asel = always (VsetLanes cmp (lanes w atype U32 add mask asel))
 
-abbrev arithmeticLine : LaneArith → LaneWidth → VideoType → VideoType → VideoType → Bool → Bool → Mask → Digits → Record
-arithmeticLine op w dtype atype btype sat add mask asel = always (ArithmeticLanes op dtype sat (lanes w atype btype add mask asel))
+abbrev lanesRecord : LaneArith → LaneWidth → VideoType → VideoType → VideoType → Bool → Bool → Mask → Digits → Record
+lanesRecord op w dtype atype btype sat add mask asel = always (ArithmeticLanes op dtype sat (lanes w atype btype add mask asel))
 
 -- all of one type, full mask, default selectors
 abbrev allOf : LaneArith → LaneWidth → VideoType → Bool → Bool → Record
-allOf op w t sat add = arithmeticLine op w t t t sat add (fullMask w) (defaultA w)
+allOf op w t sat add = lanesRecord op w t t t sat add (fullMask w) (defaultA w)
 
-abbrev scalarLine : Arith → VideoType → Bool → VideoType → VideoType → Form → Record
-scalarLine op dtype sat atype btype form =
+abbrev scalarRecord : Arith → VideoType → Bool → VideoType → VideoType → Form → Record
+scalarRecord op dtype sat atype btype form =
     always (Arithmetic op dtype sat (record { atype = atype; btype = btype; form = form; a = Whole (r 0); b = Whole (r 1) }))
 
--- d of a line whose words are a, b, c before
-abbrev gives : Record → ℕ → ℕ → ℕ → ℕ → Figure
-gives line a b c d = record { line = line; before = lent (four a b c 0) (three 0 0 0); left = lent (four a b c d) (three 0 0 0) }
+-- dtype and stype f32
+abbrev setRecord : Cmp6 → Record
+setRecord cmp =
+    always
+    (Set SetType.F32 (r 3)
+    (record { cmp = Six cmp; combination = Alone; ftz = false; stype = DataType.F32; a = Operand.Word (r 0); b = Operand.Word (r 1) }))
 
--- slct.f32.f32 or slct.ftz.f32.f32 by c. a and b are subnormal themselves, so that a flushed copy would show
-abbrev chosen : Bool → ℕ → ℕ → Figure
-chosen ftz c d =
-    gives
-    (always
+-- slct.f32.f32 or slct.ftz.f32.f32
+abbrev slctRecord : Bool → Record
+slctRecord ftz =
+    always
     (Slct (SlctType.F32 ftz)
-    (record { dtype = DataType.F32; d = Operand.Word (r 3); a = Operand.Word (r 0); b = Operand.Word (r 1) }) (r 2))) 0x80000001 0x007FFFFF
-    c d
-
-abbrev picksA : Bool → ℕ → Figure
-picksA ftz c = chosen ftz c 0x80000001
-
-abbrev picksB : Bool → ℕ → Figure
-picksB ftz c = chosen ftz c 0x007FFFFF
+    (record { dtype = DataType.F32; d = Operand.Word (r 3); a = Operand.Word (r 0); b = Operand.Word (r 1) }) (r 2))
 
 -- h01, b0123, b20
 abbrev h01 : Digits
@@ -119,34 +119,45 @@ b0123 = record { lane0 = 3; lane1 = 2; lane2 = 1; lane3 = 0 }
 abbrev b20 : Mask
 b20 = record { lane0 = true; lane1 = false; lane2 = true; lane3 = false }
 
+-- ---- a line's figure
+
+-- d of a line whose words are a, b, c before
+abbrev gives : String → Record → ℕ → ℕ → ℕ → ℕ → Figure
+gives line spelled a b c d =
+    record { line = line; spelled = spelled; before = lent (four a b c 0) (three 0 0 0); left = lent (four a b c d) (three 0 0 0) }
+
+-- slct by c. a and b are subnormal themselves, so that a flushed copy would show
+abbrev picksA : String → Record → ℕ → Figure
+picksA line spelled c = gives line spelled 0x80000001 0x007FFFFF c 0x80000001
+
+abbrev picksB : String → Record → ℕ → Figure
+picksB line spelled c = gives line spelled 0x80000001 0x007FFFFF c 0x007FFFFF
+
 -- ---- the starred figures, and those for T-01 and T-02
 
 unfoldable pub figures : List Figure
 figures =
     -- vset4.s32.u32.lt, a 80FF0001, b 00000002: 01010001. Mask .b20, c AABBCCDD: AA01CC01. `add`, full mask, c FFFFFFFF: 00000002
-    gives (lanesLine Byte S32 Lt false (fullMask Byte) (defaultA Byte)) 0x80FF0001 0x00000002 0 0x01010001
-    ∷ gives (lanesLine Byte S32 Lt false b20 (defaultA Byte)) 0x80FF0001 0x00000002 0xAABBCCDD 0xAA01CC01
-    ∷ gives (lanesLine Byte S32 Lt true (fullMask Byte) (defaultA Byte)) 0x80FF0001 0x00000002 0xFFFFFFFF 0x00000002
+    gives "vset4.s32.u32.lt %r3, %r0, %r1, %r2;" (vsetRecord Byte S32 Lt false (fullMask Byte) (defaultA Byte)) 0x80FF0001 0x00000002 0 0x01010001
+    ∷ gives "vset4.s32.u32.lt %r3.b20, %r0, %r1, %r2;" (vsetRecord Byte S32 Lt false b20 (defaultA Byte)) 0x80FF0001 0x00000002 0xAABBCCDD 0xAA01CC01
+    ∷ gives "vset4.s32.u32.lt.add %r3, %r0, %r1, %r2;" (vsetRecord Byte S32 Lt true (fullMask Byte) (defaultA Byte)) 0x80FF0001 0x00000002 0xFFFFFFFF 0x00000002
     -- vset2.u32.u32.ge, a 00010002, b 00020002: 00000001. With a `.h01`: 00010000
-    ∷ gives (lanesLine Half U32 Ge false (fullMask Half) (defaultA Half)) 0x00010002 0x00020002 0 0x00000001
-    ∷ gives (lanesLine Half U32 Ge false (fullMask Half) h01) 0x00010002 0x00020002 0 0x00010000
+    ∷ gives "vset2.u32.u32.ge %r3, %r0, %r1, %r2;" (vsetRecord Half U32 Ge false (fullMask Half) (defaultA Half)) 0x00010002 0x00020002 0 0x00000001
+    ∷ gives "vset2.u32.u32.ge %r3, %r0.h01, %r1, %r2;" (vsetRecord Half U32 Ge false (fullMask Half) h01) 0x00010002 0x00020002 0 0x00010000
     -- vadd all s32, 7FFFFFFF and 1: 80000000; sat 7FFFFFFF
-    ∷ gives (scalarLine Vadd S32 false S32 S32 (Plain (r 3))) 0x7FFFFFFF 1 0 0x80000000
-    ∷ gives (scalarLine Vadd S32 true S32 S32 (Plain (r 3))) 0x7FFFFFFF 1 0 0x7FFFFFFF
+    ∷ gives "vadd.s32.s32.s32 %r3, %r0, %r1;" (scalarRecord Vadd S32 false S32 S32 (Plain (r 3))) 0x7FFFFFFF 1 0 0x80000000
+    ∷ gives "vadd.s32.s32.s32.sat %r3, %r0, %r1;" (scalarRecord Vadd S32 true S32 S32 (Plain (r 3))) 0x7FFFFFFF 1 0 0x7FFFFFFF
     -- vadd all u32 into `.b1`, 200 and 100, c 11223344: 11222C44; sat 1122FF44
-    ∷ gives (scalarLine Vadd U32 false U32 U32 (Merge (r 3) B1 (r 2))) 200 100 0x11223344 0x11222C44
-    ∷ gives (scalarLine Vadd U32 true U32 U32 (Merge (r 3) B1 (r 2))) 200 100 0x11223344 0x1122FF44
+    ∷ gives "vadd.u32.u32.u32 %r3.b1, %r0, %r1, %r2;" (scalarRecord Vadd U32 false U32 U32 (Merge (r 3) B1 (r 2))) 200 100 0x11223344 0x11222C44
+    ∷ gives "vadd.u32.u32.u32.sat %r3.b1, %r0, %r1, %r2;" (scalarRecord Vadd U32 true U32 U32 (Merge (r 3) B1 (r 2))) 200 100 0x11223344 0x1122FF44
     -- vabsdiff.u32.s32.u32, 80000000 and FFFFFFFF: 7FFFFFFF
-    ∷ gives (scalarLine Vabsdiff U32 false S32 U32 (Plain (r 3))) 0x80000000 0xFFFFFFFF 0 0x7FFFFFFF
+    ∷ gives "vabsdiff.u32.s32.u32 %r3, %r0, %r1;" (scalarRecord Vabsdiff U32 false S32 U32 (Plain (r 3))) 0x80000000 0xFFFFFFFF 0 0x7FFFFFFF
     -- set.eq.f32.f32, 80000000 and 0: 3F800000
-    ∷ gives
-    (always
-    (Set SetType.F32 (r 3)
-    (record { cmp = Six Eq; combination = Alone; ftz = false; stype = DataType.F32; a = Operand.Word (r 0); b = Operand.Word (r 1) }))) 0x80000000 0
-    0 0x3F800000
+    ∷ gives "set.eq.f32.f32 %r3, %r0, %r1;" (setRecord Eq) 0x80000000 0 0 0x3F800000
     -- setp.lt.and.s32, -1 and 0, c 0: both places 0
     ∷ record {
-      line = always
+      line = "setp.lt.and.s32 %p1|%p2, %r0, %r1, %p0;";
+      spelled = always
           (Setp (Pair (record { 0 = 1 }) (record { 0 = 2 }))
           (record {
             cmp = Six Lt;
@@ -160,39 +171,54 @@ figures =
       left = lent (four 0xFFFFFFFF 0 0 0) (three 0 0 0);
     }
     -- for T-01. vavrg4 all u32, 00FF0102, 01FF0203: 01FF0203; all s32, FFFD8001, 00FE8002: FFFD8002. vavrg2 all s32, FFFF8000, 00008001: FFFF8000
-    ∷ gives (allOf Vavrg Byte U32 false false) 0x00FF0102 0x01FF0203 0 0x01FF0203
-    ∷ gives (allOf Vavrg Byte S32 false false) 0xFFFD8001 0x00FE8002 0 0xFFFD8002
-    ∷ gives (allOf Vavrg Half S32 false false) 0xFFFF8000 0x00008001 0 0xFFFF8000
+    ∷ gives "vavrg4.u32.u32.u32 %r3, %r0, %r1, %r2;" (allOf Vavrg Byte U32 false false) 0x00FF0102 0x01FF0203 0 0x01FF0203
+    ∷ gives "vavrg4.s32.s32.s32 %r3, %r0, %r1, %r2;" (allOf Vavrg Byte S32 false false) 0xFFFD8001 0x00FE8002 0 0xFFFD8002
+    ∷ gives "vavrg2.s32.s32.s32 %r3, %r0, %r1, %r2;" (allOf Vavrg Half S32 false false) 0xFFFF8000 0x00008001 0 0xFFFF8000
     -- vadd4 all u32, FF800102, 01800304: 00000406; `sat` FFFF0406; `add` with c 0: 0000020A; `sat` and `add`: 00000208
-    ∷ gives (allOf (Scalar Vadd) Byte U32 false false) 0xFF800102 0x01800304 0 0x00000406
-    ∷ gives (allOf (Scalar Vadd) Byte U32 true false) 0xFF800102 0x01800304 0 0xFFFF0406
-    ∷ gives (allOf (Scalar Vadd) Byte U32 false true) 0xFF800102 0x01800304 0 0x0000020A
-    ∷ gives (allOf (Scalar Vadd) Byte U32 true true) 0xFF800102 0x01800304 0 0x00000208
+    ∷ gives "vadd4.u32.u32.u32 %r3, %r0, %r1, %r2;" (allOf (Scalar Vadd) Byte U32 false false) 0xFF800102 0x01800304 0 0x00000406
+    ∷ gives "vadd4.u32.u32.u32.sat %r3, %r0, %r1, %r2;" (allOf (Scalar Vadd) Byte U32 true false) 0xFF800102 0x01800304 0 0xFFFF0406
+    ∷ gives "vadd4.u32.u32.u32.add %r3, %r0, %r1, %r2;" (allOf (Scalar Vadd) Byte U32 false true) 0xFF800102 0x01800304 0 0x0000020A
+    ∷ gives "vadd4.u32.u32.u32.sat.add %r3, %r0, %r1, %r2;" (allOf (Scalar Vadd) Byte U32 true true) 0xFF800102 0x01800304 0 0x00000208
     -- vsub4 all u32 with `add`, 0, 01010101, c 10: 0000000C; with `sat` too: 00000010
-    ∷ gives (allOf (Scalar Vsub) Byte U32 false true) 0 0x01010101 0x10 0x0000000C
-    ∷ gives (allOf (Scalar Vsub) Byte U32 true true) 0 0x01010101 0x10 0x00000010
+    ∷ gives "vsub4.u32.u32.u32.add %r3, %r0, %r1, %r2;" (allOf (Scalar Vsub) Byte U32 false true) 0 0x01010101 0x10 0x0000000C
+    ∷ gives "vsub4.u32.u32.u32.sat.add %r3, %r0, %r1, %r2;" (allOf (Scalar Vsub) Byte U32 true true) 0 0x01010101 0x10 0x00000010
     -- vsub4.s32.u32.u32 into `.b20`, 00FF0005, 01010101, c AABBCCDD: AAFECC04
-    ∷ gives (arithmeticLine (Scalar Vsub) Byte S32 U32 U32 false false b20 (defaultA Byte)) 0x00FF0005 0x01010101 0xAABBCCDD 0xAAFECC04
+    ∷ gives "vsub4.s32.u32.u32 %r3.b20, %r0, %r1, %r2;" (lanesRecord (Scalar Vsub) Byte S32 U32 U32 false false b20 (defaultA Byte)) 0x00FF0005 0x01010101 0xAABBCCDD 0xAAFECC04
     -- vabsdiff4.u32.s32.u32, 80FF0001, FF0102FE: 7F0202FD; all s32 `sat`, 80FF0001, 7F0102FE: 7F020203
-    ∷ gives (arithmeticLine (Scalar Vabsdiff) Byte U32 S32 U32 false false (fullMask Byte) (defaultA Byte)) 0x80FF0001 0xFF0102FE 0 0x7F0202FD
-    ∷ gives (allOf (Scalar Vabsdiff) Byte S32 true false) 0x80FF0001 0x7F0102FE 0 0x7F020203
+    ∷ gives "vabsdiff4.u32.s32.u32 %r3, %r0, %r1, %r2;" (lanesRecord (Scalar Vabsdiff) Byte U32 S32 U32 false false (fullMask Byte) (defaultA Byte)) 0x80FF0001 0xFF0102FE 0 0x7F0202FD
+    ∷ gives "vabsdiff4.s32.s32.s32.sat %r3, %r0, %r1, %r2;" (allOf (Scalar Vabsdiff) Byte S32 true false) 0x80FF0001 0x7F0102FE 0 0x7F020203
     -- vmin2.u32.s32.u32, FFFF0005, 00010006: FFFF0005
-    ∷ gives (arithmeticLine (Scalar Vmin) Half U32 S32 U32 false false (fullMask Half) (defaultA Half)) 0xFFFF0005 0x00010006 0 0xFFFF0005
+    ∷ gives "vmin2.u32.s32.u32 %r3, %r0, %r1, %r2;" (lanesRecord (Scalar Vmin) Half U32 S32 U32 false false (fullMask Half) (defaultA Half)) 0xFFFF0005 0x00010006 0 0xFFFF0005
     -- vmax4 all u32, a `.b0123` 01020304, 02020202: 04030202
-    ∷ gives (arithmeticLine (Scalar Vmax) Byte U32 U32 U32 false false (fullMask Byte) b0123) 0x01020304 0x02020202 0 0x04030202
+    ∷ gives "vmax4.u32.u32.u32 %r3, %r0.b0123, %r1, %r2;" (lanesRecord (Scalar Vmax) Byte U32 U32 U32 false false (fullMask Byte) b0123) 0x01020304 0x02020202 0 0x04030202
     -- T-02, slct: c 80000001 gives a with `ftz`, b without; 807FFFFF likewise
-    ∷ picksA true 0x80000001 ∷ picksB false 0x80000001
-    ∷ picksA true 0x807FFFFF ∷ picksB false 0x807FFFFF
+    ∷ picksA "slct.ftz.f32.f32 %r3, %r0, %r1, %r2;" (slctRecord true) 0x80000001
+    ∷ picksB "slct.f32.f32 %r3, %r0, %r1, %r2;" (slctRecord false) 0x80000001
+    ∷ picksA "slct.ftz.f32.f32 %r3, %r0, %r1, %r2;" (slctRecord true) 0x807FFFFF
+    ∷ picksB "slct.f32.f32 %r3, %r0, %r1, %r2;" (slctRecord false) 0x807FFFFF
     -- 80800000 (the smallest normal number, negative) gives b in both, -0 a, NaN of either sign and -infinity b; 00000001 gives a
-    ∷ picksB true 0x80800000 ∷ picksB false 0x80800000
-    ∷ picksA true 0x80000000 ∷ picksA false 0x80000000
-    ∷ picksB true 0x7FC00000 ∷ picksB false 0x7FC00000
-    ∷ picksB true 0xFFC00000 ∷ picksB false 0xFFC00000
-    ∷ picksB true 0xFF800000 ∷ picksB false 0xFF800000
-    ∷ picksA true 0x00000001 ∷ picksA false 0x00000001
+    ∷ picksB "slct.ftz.f32.f32 %r3, %r0, %r1, %r2;" (slctRecord true) 0x80800000
+    ∷ picksB "slct.f32.f32 %r3, %r0, %r1, %r2;" (slctRecord false) 0x80800000
+    ∷ picksA "slct.ftz.f32.f32 %r3, %r0, %r1, %r2;" (slctRecord true) 0x80000000
+    ∷ picksA "slct.f32.f32 %r3, %r0, %r1, %r2;" (slctRecord false) 0x80000000
+    ∷ picksB "slct.ftz.f32.f32 %r3, %r0, %r1, %r2;" (slctRecord true) 0x7FC00000
+    ∷ picksB "slct.f32.f32 %r3, %r0, %r1, %r2;" (slctRecord false) 0x7FC00000
+    ∷ picksB "slct.ftz.f32.f32 %r3, %r0, %r1, %r2;" (slctRecord true) 0xFFC00000
+    ∷ picksB "slct.f32.f32 %r3, %r0, %r1, %r2;" (slctRecord false) 0xFFC00000
+    ∷ picksB "slct.ftz.f32.f32 %r3, %r0, %r1, %r2;" (slctRecord true) 0xFF800000
+    ∷ picksB "slct.f32.f32 %r3, %r0, %r1, %r2;" (slctRecord false) 0xFF800000
+    ∷ picksA "slct.ftz.f32.f32 %r3, %r0, %r1, %r2;" (slctRecord true) 0x00000001
+    ∷ picksA "slct.f32.f32 %r3, %r0, %r1, %r2;" (slctRecord false) 0x00000001
     ∷ []
 
--- each figure's record, run on its files, is done and leaves the files that stand beside it
-pub figures-hold : map (λ (g : Figure). run (g .line) (g .before)) figures ≡ map (λ (g : Figure). outcome done (g .left)) figures
-unfolding figures run isLegal sizesFit predsFit guardHolds after writes arithmeticOf formOf selectedOf exactOf lanesOf laneHolds holdsZ laneResult arithmeticLanesOf combinedOf testOf comparisonOf valueOf notBelowZero lt eq ofBits ofFields odd
+-- what a figure says: its line, and that it is done and leaves the files beside it
+abbrev pub said : Figure → List ℕ × Outcome
+said g = (bytes (g .line), outcome done (g .left))
+
+-- what the definitions give: the standard line of its record, and how that record's run on its files ends
+abbrev pub given : Figure → List ℕ × Outcome
+given g = (standard (g .spelled), run (g .spelled) (g .before))
+
+pub figures-hold : map given figures ≡ map said figures
+unfolding figures standard run isLegal sizesFit predsFit guardHolds after writes arithmeticOf formOf selectedOf exactOf lanesOf laneHolds holdsZ laneResult arithmeticLanesOf combinedOf testOf comparisonOf valueOf notBelowZero lt eq ofBits ofFields odd
 figures-hold = refl

@@ -58,8 +58,8 @@ rd n = Operand.Double (record { 0 = n })
 abbrev p : ℕ → Pred
 p n = record { 0 = n }
 
-abbrev not : ℕ → Condition
-not n = record { inverted = true; pred = p n }
+abbrev inverted : ℕ → Condition
+inverted n = record { inverted = true; pred = p n }
 
 abbrev plain : ℕ → Condition
 plain n = record { inverted = false; pred = p n }
@@ -67,11 +67,11 @@ plain n = record { inverted = false; pred = p n }
 abbrev w : ℕ → Operand
 w n = Operand.Word (r n)
 
-unfoldable pub lines : List Spelled
-lines =
-    -- document 01's example
-    is
-    (always
+-- ---- records that Answered.antt reads, too
+
+abbrev pub exampleVset4 : Record
+exampleVset4 =
+    always
     (VsetLanes Lt
     (record {
       width = Byte;
@@ -85,16 +85,31 @@ lines =
       b = r 2;
       bsel = defaultB Byte;
       c = r 0;
-    }))) (bytes "vset4.u32.u32.lt %r10, %r1, %r2, %r0;")
-    ∷ is
-    (always
-    (Setp (First (p 1)) (record { cmp = CmpOp.Six Lt; combination = Alone; ftz = false; stype = DataType.U32; a = w 1; b = w 2 })))
-    (bytes "setp.lt.u32 %p1|_, %r1, %r2;")
-    ∷ is
-    (record {
-      guard = When (not 1);
+    }))
+
+abbrev pub exampleSetp : Record
+exampleSetp = always (Setp (First (p 1)) (record { cmp = CmpOp.Six Lt; combination = Alone; ftz = false; stype = DataType.U32; a = w 1; b = w 2 }))
+
+abbrev pub exampleSelp : Record
+exampleSelp =
+    record {
+      guard = When (inverted 1);
       instruction = Selp (record { dtype = DataType.U32; d = w 11; a = w 1; b = w 2 }) (p 1);
-    }) (bytes "@!%p1 selp.u32 %r11, %r1, %r2, %p1;")
+    }
+
+abbrev pub highestWord : Record
+highestWord = always (Arithmetic Vadd U32 false (record { atype = U32; btype = U32; form = Plain (r 63); a = Whole (r 1); b = Whole (r 2) }))
+
+-- ---- the lines
+
+unfoldable pub lines : List Spelled
+lines =
+    -- document 01's example
+    is exampleVset4 (bytes "vset4.u32.u32.lt %r10, %r1, %r2, %r0;")
+    ∷ is exampleSetp (bytes "setp.lt.u32 %p1|_, %r1, %r2;")
+    ∷ is exampleSelp (bytes "@!%p1 selp.u32 %r11, %r1, %r2, %p1;")
+    -- the highest word register
+    ∷ is highestWord (bytes "vadd.u32.u32.u32 %r63, %r1, %r2;")
     -- every other form
     ∷ is
     (always
@@ -175,7 +190,7 @@ lines =
     (record {
       guard = When (plain 15);
       instruction = Set SetType.F32 (r 5)
-          (record { cmp = CmpOp.Float Ltu; combination = With And (not 3); ftz = true; stype = DataType.F32; a = w 6; b = w 7 });
+          (record { cmp = CmpOp.Float Ltu; combination = With And (inverted 3); ftz = true; stype = DataType.F32; a = w 6; b = w 7 });
     }) (bytes "@%p15 set.ltu.and.ftz.f32.f32 %r5, %r6, %r7, !%p3;")
     ∷ is
     (always

@@ -1,1 +1,1 @@
-// Only the starred bench figures of document 01 and those for T-01 and T-02, proved over the definitions: see specs/Figures.antt.
+// No code: the bench figures, standard lines of records, and lines with their answers, proved over the definitions: see specs/.

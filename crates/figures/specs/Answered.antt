@@ -1,0 +1,84 @@
+-- Lines and the answers that document 01 gives them: lines that are read, each refusal 1 to 7, and lines to which two refusals apply. One list with one claim.
+use Prim.Native.Nat.{ℕ}
+use mathlib.Core.Path.{_≡_, refl, subst}
+use mathlib.Core.List.{List, [], _∷_, _++_, map}
+use lib.ListN.{replicate}
+use Rattle.signs.specs.Text.{bytes}
+use Rattle.base.specs.Pack.{codeOf}
+use Rattle.rules.specs.Reading.{Answer, read, refused, Answers}
+use Rattle.scan.specs.Runs.{sum}
+use Rattle.scan.specs.Numbers.{numberOf, numberBy}
+use Rattle.scan.specs.Registers.{registerOf, registerBy, prefixBy, numbered}
+use Rattle.shape.specs.Turns.{turns}
+use Rattle.shape.specs.Guard.{guardOf, guardBy}
+use Rattle.shape.specs.Head.{headOf, nameTurn, nameBy, pushedName}
+use Rattle.shape.specs.Operand.{operandOf, firstOf, afterBy, partOf, secondOf, secondBy}
+use Rattle.shape.specs.Operands.{operandsOf, operandTurn, operandBy, dividedBy, dividerOf, dividerBy, pushedTree}
+use Rattle.shape.specs.Line.{shapeOf, guardedBy, fromHead, fromGap, fromOperands, fromEnd, refused as noLine}
+use Rattle.names.specs.Back.{opcodeOf, videoOf, typeOf, sixOf, cmpOf, boolOf, op2Of}
+use Rattle.heads.specs.Rows.{rowOf, rowBy, foundOf, readOf as readHead, nameAt, wholeOf, sidesAt, sidesBy, comparedOf, comparedBy, typedOf, typedBy, endingAt, endingBy, arithmeticOf, arithmeticFrom, arithmeticBy, lanesRow, lanesBy, testedOf, testedBy, testAt, setpOf, setpFrom, setpAt, setpBy, selpOf, selpBy}
+use Rattle.masks.specs.Masks.{maskOf, falling, digitsOf, digitsIn}
+use Rattle.fills.specs.Fills.{filledOf, treeAt, scalarOf, lanesOf, comparisonOf, choiceOf}
+use Rattle.read.specs.Mirror.{candidateOf, readOf}
+use Rattle.read.specs.Laws.{answers}
+use Rattle.figures.specs.Lines.{exampleVset4, exampleSetp, exampleSelp, highestWord}
+
+pub record Answered : Type 0 where
+  pub line : List ℕ
+  pub answer : Answer
+
+abbrev gets : List ℕ → Answer → Answered
+gets l a = record { line = l; answer = a }
+
+-- 37 bytes and n blanks
+abbrev padded : ℕ → List ℕ
+padded n = bytes "vset4.u32.u32.lt %r10, %r1, %r2, %r0;" ++ replicate n 32
+
+unfoldable pub answered : List Answered
+answered =
+    -- document 01's example: Lines.antt has the standard line of each record
+    gets (bytes "vset4.u32.u32.lt %r10, %r1, %r2, %r0;") (read exampleVset4)
+    ∷ gets (bytes "vset4.u32.u32.ne.max %r1, %r2, %r3, %r0;") (refused 4)
+    ∷ gets (bytes "setp.lt.u32 %p1|_, %r1, %r2;") (read exampleSetp)
+    ∷ gets (bytes "@!%p1  selp.u32 %r11, %r1,%r2, %p1;") (read exampleSelp)
+    -- a bare operand and its written default are one record
+    ∷ gets (bytes "vset4.u32.u32.lt %r10.b3210, %r1.b3210, %r2.b7654, %r0;") (read exampleVset4)
+    -- `%r63` is read, `%r64` gives 6, `%r063` gives 2
+    ∷ gets (bytes "vadd.u32.u32.u32 %r63, %r1, %r2;") (read highestWord)
+    ∷ gets (bytes "vadd.u32.u32.u32 %r64, %r1, %r2;") (refused 6)
+    ∷ gets (bytes "vadd.u32.u32.u32 %r063, %r1, %r2;") (refused 2)
+    -- 160 bytes are read, 161 give 1. The empty line gives 2
+    ∷ gets (padded 123) (read exampleVset4)
+    ∷ gets (padded 124) (refused 1)
+    ∷ gets [] (refused 2)
+    -- no opcode here. `_|_` gives 5. Both places of a pair are the same predicate
+    ∷ gets (bytes "vmad.u32.u32.u32 %r1, %r2, %r3, %r4;") (refused 3)
+    ∷ gets (bytes "setp.lt.u32 _|_, %r1, %r2;") (refused 5)
+    ∷ gets (bytes "setp.lt.u32 %p1|%p1, %r1, %r2;") (refused 7)
+    -- each looked at only when the earlier ones don't apply: 1 and 2, 3 and 6, 4 and 5, 5 and 6, 6 and 7
+    ∷ gets (replicate 161 32) (refused 1)
+    ∷ gets (bytes "vmad.u32.u32.u32 %r64, %r2, %r3, %r4;") (refused 3)
+    ∷ gets (bytes "vset4.u32.u32.ne.max %r1, %r2, %r3;") (refused 4)
+    ∷ gets (bytes "setp.lt.u32 _|_, %r64, %r2;") (refused 5)
+    ∷ gets (bytes "setp.lt.u32 %p16|%p16, %r1, %r2;") (refused 6)
+    ∷ []
+
+-- the reader's stages give each line its answer
+answered-computed : map (λ (x : Answered). readOf (x .line)) answered ≡ map (λ (x : Answered). x .answer) answered
+unfolding answered readOf candidateOf shapeOf guardedBy guardOf guardBy fromHead headOf turns nameTurn nameBy pushedName fromGap fromOperands operandsOf operandTurn operandBy operandOf firstOf afterBy partOf secondOf secondBy dividedBy dividerOf dividerBy pushedTree fromEnd noLine registerOf registerBy prefixBy numbered numberOf numberBy sum codeOf rowOf rowBy foundOf readHead nameAt wholeOf sidesAt sidesBy comparedOf comparedBy typedOf typedBy endingAt endingBy arithmeticOf arithmeticFrom arithmeticBy lanesRow lanesBy testedOf testedBy testAt setpOf setpFrom setpAt setpBy selpOf selpBy opcodeOf videoOf typeOf sixOf cmpOf boolOf op2Of maskOf falling digitsOf digitsIn filledOf treeAt scalarOf lanesOf comparisonOf choiceOf
+answered-computed = refl
+
+-- the grammar gives each line of a list the answer beside it
+abbrev pub EachGets : List Answered → Type 0
+EachGets [] = Unit {0}
+EachGets (x ∷ xs) = Answers (x .line) (x .answer) × EachGets xs
+
+each : (xs : List Answered) → map (λ (x : Answered). readOf (x .line)) xs ≡ map (λ (x : Answered). x .answer) xs → EachGets xs
+each [] e = tt
+each (x ∷ xs) e =
+    let this : readOf (x .line) ≡ x .answer = cc in
+    let rest : map (λ (x : Answered). readOf (x .line)) xs ≡ map (λ (x : Answered). x .answer) xs = cc in
+    (subst (Answers (x .line)) this (answers (x .line)), each xs rest)
+
+pub answered-hold : EachGets answered
+answered-hold = each answered answered-computed
