@@ -6,21 +6,21 @@ use lib.ListN.{replicate}
 use Rattle.signs.specs.Text.{bytes}
 use Rattle.base.specs.Pack.{codeOf}
 use Rattle.rules.specs.Reading.{Answer, read, refused, Answers}
-use Rattle.scan.specs.Runs.{sum}
-use Rattle.scan.specs.Numbers.{numberOf, numberBy}
-use Rattle.scan.specs.Registers.{registerOf, registerBy, prefixBy, numbered}
+use Rattle.scan.specs.Runs.{cappedSum}
+use Rattle.scan.specs.Numbers.{numberFound, numberBy}
+use Rattle.scan.specs.Registers.{registerOf, registerBy, prefixBy, registerFrom}
 use Rattle.shape.specs.Turns.{turns}
 use Rattle.shape.specs.Guard.{guardOf, guardBy}
 use Rattle.shape.specs.Head.{headOf, nameTurn, nameBy, pushedName}
-use Rattle.shape.specs.Operand.{operandOf, firstOf, afterBy, partOf, secondOf, secondBy}
-use Rattle.shape.specs.Operands.{operandsOf, operandTurn, operandBy, dividedBy, dividerOf, dividerBy, pushedTree}
-use Rattle.shape.specs.Line.{shapeOf, guardedBy, fromHead, fromGap, fromOperands, fromEnd, refused as noLine}
-use Rattle.names.specs.Back.{opcodeOf, videoOf, typeOf, sixOf, cmpOf, boolOf, op2Of}
-use Rattle.heads.specs.Rows.{rowOf, rowBy, foundOf, readOf as readHead, nameAt, wholeOf, sidesAt, sidesBy, comparedOf, comparedBy, typedOf, typedBy, endingAt, endingBy, arithmeticOf, arithmeticFrom, arithmeticBy, lanesRow, lanesBy, testedOf, testedBy, testAt, setpOf, setpFrom, setpAt, setpBy, selpOf, selpBy}
-use Rattle.masks.specs.Masks.{maskOf, falling, digitsOf, digitsIn}
-use Rattle.fills.specs.Fills.{filledOf, treeAt, scalarOf, lanesOf, comparisonOf, choiceOf}
+use Rattle.shape.specs.Operand.{operandScanned, firstOf, afterBy, partOf, secondOf, secondBy}
+use Rattle.shape.specs.Operands.{operandsScanned, operandTurn, operandBy, dividedBy, dividerOf, dividerBy, pushedTree}
+use Rattle.shape.specs.Line.{shapeOf, guardedBy, fromHead, fromGap, fromOperands, fromEnd, stoppedAt}
+use Rattle.names.specs.Back.{opcodeOf, videoOf, typeOf, sixOf, cmpOf, boolOpOf, op2Of}
+use Rattle.heads.specs.Rows.{rowOf, rowBy, foundOf, readOf as readHead, nameAt, wholeOf, sidesAt, sidesBy, headCompared, comparedBy, typedOf, typedBy, endingAt, endingBy, arithmeticRow, arithmeticTyped, arithmeticBy, vsetLanesRow, vsetLanesBy, testedOf, testedBy, testAt, setpRow, setpTested, setpAt, setpBy, selpRow, selpBy}
+use Rattle.masks.specs.Masks.{maskOf, falling, digitsNamed, digitsIn}
+use Rattle.fills.specs.Fills.{filledOf, treeAt, scalarFrom, lanesFrom, comparisonFrom, choiceFrom}
 use Rattle.read.specs.Mirror.{candidateOf, readOf}
-use Rattle.read.specs.Laws.{answers}
+use Rattle.read.specs.Answering.{answers}
 use Rattle.figures.specs.Lines.{exampleVset4, exampleSetp, exampleSelp, highestWord}
 
 pub record Answered : Type 0 where
@@ -65,7 +65,7 @@ answered =
 
 -- the reader's stages give each line its answer
 answered-computed : map (λ (x : Answered). readOf (x .line)) answered ≡ map (λ (x : Answered). x .answer) answered
-unfolding answered readOf candidateOf shapeOf guardedBy guardOf guardBy fromHead headOf turns nameTurn nameBy pushedName fromGap fromOperands operandsOf operandTurn operandBy operandOf firstOf afterBy partOf secondOf secondBy dividedBy dividerOf dividerBy pushedTree fromEnd noLine registerOf registerBy prefixBy numbered numberOf numberBy sum codeOf rowOf rowBy foundOf readHead nameAt wholeOf sidesAt sidesBy comparedOf comparedBy typedOf typedBy endingAt endingBy arithmeticOf arithmeticFrom arithmeticBy lanesRow lanesBy testedOf testedBy testAt setpOf setpFrom setpAt setpBy selpOf selpBy opcodeOf videoOf typeOf sixOf cmpOf boolOf op2Of maskOf falling digitsOf digitsIn filledOf treeAt scalarOf lanesOf comparisonOf choiceOf
+unfolding answered readOf candidateOf shapeOf guardedBy guardOf guardBy fromHead headOf turns nameTurn nameBy pushedName fromGap fromOperands operandsScanned operandTurn operandBy operandScanned firstOf afterBy partOf secondOf secondBy dividedBy dividerOf dividerBy pushedTree fromEnd stoppedAt registerOf registerBy prefixBy registerFrom numberFound numberBy cappedSum codeOf rowOf rowBy foundOf readHead nameAt wholeOf sidesAt sidesBy headCompared comparedBy typedOf typedBy endingAt endingBy arithmeticRow arithmeticTyped arithmeticBy vsetLanesRow vsetLanesBy testedOf testedBy testAt setpRow setpTested setpAt setpBy selpRow selpBy opcodeOf videoOf typeOf sixOf cmpOf boolOpOf op2Of maskOf falling digitsNamed digitsIn filledOf treeAt scalarFrom lanesFrom comparisonFrom choiceFrom
 answered-computed = refl
 
 -- the grammar gives each line of a list the answer beside it
