@@ -1,128 +1,268 @@
--- The user's three demands, in their words and order, as laws of the whole bench: document 01 with the requests that have landed (T-01, T-02). `read`, `write` and `execute` of src/lib.rt promise `Answers`, `writing` and `run` for
--- every input; these laws say what that means. What a definition says, its own file says after the documents (docs/TRACE.md leads the way). Assumes nothing.
-use Prim.Native.Nat.{ℕ, _≤_, _<_}
-use mathlib.Core.Path.{_≡_, ap}
-use mathlib.Core.Bool.{true, false}
-use mathlib.Core.List.{List, _++_}
+-- The user's three demands, in their words and order, as laws of the whole bench: document 01 with the requests that have landed (T-01, T-02).
+-- `read`, `write` and `execute` of src/lib.rt promise `Answers`, `writing` and `run` for every input; these laws say what that means, and
+-- proofs/Contracts.antt says the records at the end of this file of the functions' own contracts. What a definition says, its own file says
+-- after the documents (docs/RULES.md leads the way). Assumes nothing.
+use Prim.Native.Nat.{ℕ, _+_, _%_, _≤_, _<_}
+use mathlib.Core.Path.{_≡_, ap, sym, _∙_}
+use mathlib.Core.Bool.{Bool, true, false, not, _&&_, cond}
+use mathlib.Core.List.{List, [], _∷_, _++_}
 use lib.ListN.{length, drop}
-use borrow.Author.Tests.{lt-ltb, le-ltb}
+use lib.IntN.{pos, _+ℤ_}
+use Rattle.record.specs.Registers.{Files, Place, r, p, at, Inside}
 use Rattle.record.specs.Refusals.{isLegal, Legal}
+use Rattle.record.specs.declared.Cmp6.{Cmp6}
+use Rattle.record.specs.declared.LaneArith.{LaneArith}
+use Rattle.record.specs.declared.VideoType.{VideoType}
+use Rattle.record.specs.declared.Lanes.{Lanes}
+use Rattle.record.specs.declared.Pred.{Pred}
+use Rattle.record.specs.declared.Comparison.{Comparison}
+use Rattle.record.specs.declared.Destination.the-variants.{Pair}
+use Rattle.record.specs.declared.Instruction.the-variants.{VsetLanes, ArithmeticLanes, Setp}
 use Rattle.record.specs.declared.Record.{Record}
-use Rattle.record.specs.Registers.{Files, Place, at}
-use Rattle.rules.specs.Executing.{writes, after, sizesFit, predsFit, guardHolds, done, skipped, run}
-use Rattle.rules.specs.Executing as executing
-use Rattle.laws.specs.ExecutionLaws.{NotAmong, others-unmoved, unless-done-unmoved}
+use Rattle.rules.specs.Grammar.{LineTree, Shaped}
 use Rattle.rules.specs.StandardLine.{standard}
-use Rattle.laws.specs.LineLengths.{standard-fits}
-use Rattle.rules.specs.Writing.{written, writing}
+use Rattle.rules.specs.Reading.{Relates, lineLimit, Listed, Applies, readingOrder, FirstOf, Answer, read, refused, Answers}
 use Rattle.rules.specs.Writing as paper
-use Rattle.rules.specs.Reading.{Relates, Answer, read, refused, Answers}
+use Rattle.rules.specs.Writing.{written, writing}
+use Rattle.rules.specs.Numbers.{wordSize, laneSize, lanes, partAt, lowOf, bit}
+use Rattle.rules.specs.Execution.{maskAt, laneHolds, count, laneResult, sumZ}
+use Rattle.rules.specs.Executing as executing
+use Rattle.rules.specs.Executing.{destinations, Write, writes, after, combinedOf, testOf, sizesFit, predsFit, Admitted, guardHolds, done, skipped, run}
+use Rattle.laws.specs.ShapeLaws as shapes
+use Rattle.laws.specs.ShapeLaws.{NoFeed}
+use Rattle.laws.specs.PlaceLaws as places
+use Rattle.laws.specs.PlaceLaws.{named}
+use Rattle.laws.specs.OutcomeLaws as outcomes
+use Rattle.laws.specs.RunLaws as runs
+use Rattle.laws.specs.RunLaws.{placesOf, SameLengths}
+use Rattle.laws.specs.LineLengths.{standard-fits}
 use Rattle.read.specs.Mirror.{readOf}
-use Rattle.read.specs.Laws as laws
-use Rattle.read.specs.FirstRefusal as refusals
-use Rattle.read.specs.FirstRefusal.{Applies}
+use Rattle.read.specs.Laws as reader
+use Rattle.read.specs.Answering as answering
 use Rattle.read.specs.Promises as promises
 
 -- ==== 1. Every line, every decoded record and every set of register files gets an answer.
 
 -- `writing` and `run` are functions of all records, buffers and files; for a line there is an answer, and one
 pub every-line-answered : (l : List ℕ) → (a : Answer) × Answers l a
-every-line-answered l = (readOf l, laws.answers l)
+every-line-answered l = (readOf l, answering.answers l)
 
 pub one-answer : (l : List ℕ) (a b : Answer) → Answers l a → Answers l b → a ≡ b
-one-answer l a b x y = laws.answers-unique l a b x y
+one-answer l a b x y = answering.answers-unique l a b x y
+
+-- Each entry point tests its own input: none has a `requires`, so what a caller would have had to test is a refusal.
+
+-- a line: 1 to 7 are under demand 3. A record and a buffer: 8, 9
+pub write-8 : (x : Record) (b : List ℕ) → isLegal x ≡ false → writing x b ≡ paper.outcome (paper.refused 8) b
+write-8 x b e = outcomes.write-8 x b e
+
+pub write-9 : (x : Record) (b : List ℕ) → Legal x → length b < length (standard x) → writing x b ≡ paper.outcome (paper.refused 9) b
+write-9 x b e h = outcomes.write-9 x b e h
+
+-- a record and files: 8, 10, 11
+pub execute-8 : (x : Record) (f : Files) → isLegal x ≡ false → run x f ≡ executing.outcome (executing.refused 8) f
+execute-8 x f e = outcomes.execute-8 x f e
+
+pub execute-10 : (x : Record) (f : Files) → Legal x → sizesFit f ≡ false → run x f ≡ executing.outcome (executing.refused 10) f
+execute-10 x f e s = outcomes.execute-10 x f e s
+
+pub execute-11 : (x : Record) (f : Files) → Legal x → sizesFit f ≡ true → predsFit (f .preds) ≡ false → run x f ≡ executing.outcome (executing.refused 11) f
+execute-11 x f e s b = outcomes.execute-11 x f e s b
 
 -- A refusal carries document 01's number and leaves registers, predicates and the output buffer exactly as they were lent.
 
--- Writing: 8, 9
-pub write-8 : (r : Record) (b : List ℕ) → isLegal r ≡ false → writing r b ≡ paper.outcome (paper.refused 8) b
-unfolding writing
-write-8 r b e = rw e
+-- (a line is lent to be read only: by its type it stays as it is)
+pub read-refused : (l : List ℕ) (n : ℕ) → Answers l (refused n) → Listed n readingOrder
+read-refused l n a = promises.refused-listed l n a
 
-pub write-9 : (r : Record) (b : List ℕ) → Legal r → length b < length (standard r) → writing r b ≡ paper.outcome (paper.refused 9) b
-unfolding writing
-write-9 r b e h = rw (e, lt-ltb (length b) (length (standard r)) h)
+pub write-refused : (x : Record) (b : List ℕ) (n : ℕ) → writing x b .answer ≡ paper.refused n → Listed n (8 ∷ 9 ∷ []) × (writing x b .buffer ≡ b)
+write-refused x b n e = outcomes.write-refused x b n e
 
--- Executing: 8, 10, 11
-pub execute-8 : (r : Record) (f : Files) → isLegal r ≡ false → run r f ≡ executing.outcome (executing.refused 8) f
-unfolding run
-execute-8 r f e = rw e
-
-pub execute-10 : (r : Record) (f : Files) → Legal r → sizesFit f ≡ false → run r f ≡ executing.outcome (executing.refused 10) f
-unfolding run
-execute-10 r f e s = rw (e, s)
-
-pub execute-11 : (r : Record) (f : Files) → Legal r → sizesFit f ≡ true → predsFit (f .preds) ≡ false → run r f ≡ executing.outcome (executing.refused 11) f
-unfolding run
-execute-11 r f e s p = rw (e, s, p)
+pub execute-refused : (x : Record) (f : Files) (n : ℕ) → run x f .answer ≡ executing.refused n → Listed n (8 ∷ 10 ∷ 11 ∷ []) × (run x f .files ≡ f)
+execute-refused x f n e = outcomes.execute-refused x f n e
 
 -- ==== 2. A legal record, on files that document 01 admits, does to the registers what the PTX steps condensed there say,
 
--- file lengths 64, 32, 16, every predicate byte 0 or 1
-pub record Admitted (f : Files) : Type 0 where
-  pub sizes : sizesFit f ≡ true
-  pub bits : predsFit (f .preds) ≡ true
+-- (it is executed where its guard holds, and else skipped)
+pub executes : (x : Record) (f : Files) → Legal x → Admitted f → guardHolds (f .preds) (x .guard) ≡ true → run x f ≡ executing.outcome done (after (x .instruction) f)
+executes x f e a g = runs.executes x f e a g
 
-pub executes : (r : Record) (f : Files) → Legal r → Admitted f → guardHolds (f .preds) (r .guard) ≡ true → run r f ≡ executing.outcome done (after (r .instruction) f)
-unfolding run
-executes r f e a g = rw (e, a .sizes, a .bits, g)
+pub skips : (x : Record) (f : Files) → Legal x → Admitted f → guardHolds (f .preds) (x .guard) ≡ false → run x f ≡ executing.outcome skipped f
+skips x f e a g = runs.skips x f e a g
 
-pub skips : (r : Record) (f : Files) → Legal r → Admitted f → guardHolds (f .preds) (r .guard) ≡ false → run r f ≡ executing.outcome skipped f
-unfolding run
-skips r f e a g = rw (e, a .sizes, a .bits, g)
+module _ (x : Record) (f : Files) (legal : Legal x) (admitted : Admitted f) (guard : guardHolds (f .preds) (x .guard) ≡ true) where
+  -- each destination holds its value afterwards: `writes` says it of each instruction, by the definitions of Execution.antt
+  pub destinations-hold : (w : Write) → Listed w (writes (x .instruction) f) → at (run x f .files) (w .place) ≡ w .value
+  destinations-hold w e = runs.holds-written x f legal admitted guard w e
+
+  -- vset2 and vset4: masked lanes, those the mask names, get 1 or 0; other lanes keep c's part. With `add`, d is c plus the number of masked
+  -- lanes that hold, modulo 2^32
+  module _ (cmp : Cmp6) (l : Lanes) (is : x .instruction ≡ VsetLanes cmp l) where
+    pub masked-lane : l .add ≡ false → (i : ℕ) → i < lanes (l .width) → maskAt (l .mask) i ≡ true
+        → partAt (laneSize (l .width)) (at (run x f .files) (r (l .d))) i ≡ bit (laneHolds cmp l (at f (r (l .a))) (at f (r (l .b))) i)
+    masked-lane plain i h m = runs.masked-lane x f legal admitted guard cmp l is plain i h m
+
+    pub unmasked-lane : l .add ≡ false → (i : ℕ) → i < lanes (l .width) → maskAt (l .mask) i ≡ false
+        → partAt (laneSize (l .width)) (at (run x f .files) (r (l .d))) i ≡ partAt (laneSize (l .width)) (at f (r (l .c))) i
+    unmasked-lane plain i h m = runs.unmasked-lane x f legal admitted guard cmp l is plain i h m
+
+    pub add-counted : l .add ≡ true
+        → at (run x f .files) (r (l .d))
+        ≡ (at f (r (l .c)) + count (lanes (l .width)) (λ i. maskAt (l .mask) i && laneHolds cmp l (at f (r (l .a))) (at f (r (l .b))) i)) % wordSize
+    add-counted e = runs.add-counted x f legal admitted guard cmp l is e
+
+  -- T-01: a merge keeps the low bits of the lane, and unmasked lanes keep c's parts. `add` adds the exact masked lane results to c, modulo 2^32
+  module _ (op : LaneArith) (dtype : VideoType) (sat : Bool) (l : Lanes) (is : x .instruction ≡ ArithmeticLanes op dtype sat l) where
+    pub masked-result : l .add ≡ false → (i : ℕ) → i < lanes (l .width) → maskAt (l .mask) i ≡ true
+        → partAt (laneSize (l .width)) (at (run x f .files) (r (l .d))) i
+        ≡ lowOf (laneSize (l .width)) (laneResult op dtype sat l (at f (r (l .a))) (at f (r (l .b))) i)
+    masked-result plain i h m = runs.masked-result x f legal admitted guard op dtype sat l is plain i h m
+
+    pub unmasked-result : l .add ≡ false → (i : ℕ) → i < lanes (l .width) → maskAt (l .mask) i ≡ false
+        → partAt (laneSize (l .width)) (at (run x f .files) (r (l .d))) i ≡ partAt (laneSize (l .width)) (at f (r (l .c))) i
+    unmasked-result plain i h m = runs.unmasked-result x f legal admitted guard op dtype sat l is plain i h m
+
+    pub add-summed : l .add ≡ true
+        → at (run x f .files) (r (l .d))
+        ≡ lowOf wordSize
+        (pos (at f (r (l .c))) +ℤ sumZ (lanes (l .width)) (λ i. cond (maskAt (l .mask) i) (laneResult op dtype sat l (at f (r (l .a))) (at f (r (l .b))) i) (pos 0)))
+    add-summed e = runs.add-summed x f legal admitted guard op dtype sat l is e
+
+  -- setp writes BoolOp(t, c) to the first place, BoolOp(not t, c) to the second, of the predicates before either is written
+  module _ (a b : Pred) (s : Comparison) (is : x .instruction ≡ Setp (Pair a b) s) where
+    pub first-place : at (run x f .files) (p a) ≡ bit (combinedOf (f .preds) (s .combination) (testOf (f .words) (f .doubles) s))
+    first-place = runs.first-place x f legal admitted guard a b s is
+
+    pub second-place : at (run x f .files) (p b) ≡ bit (combinedOf (f .preds) (s .combination) (not (testOf (f .words) (f .doubles) s)))
+    second-place = runs.second-place x f legal admitted guard a b s is
+
+-- a legal record names only places in their files: its guard's, its destinations, its sources
+pub names-inside : (x : Record) → Legal x → (q : Place) → Listed q (named x) → Inside q
+names-inside x h q e = places.legal-inside x h q e
 
 -- and nothing else in them moves.
-pub others-stay : (r : Record) (f : Files) (p : Place) → NotAmong p (writes (r .instruction) f) → at (after (r .instruction) f) p ≡ at f p
-others-stay r f p h = others-unmoved (r .instruction) f p h
 
-pub all-stays-unless-done : (r : Record) (f : Files) → (run r f .answer ≡ done → ⊥) → run r f .files ≡ f
-all-stays-unless-done r f h = unless-done-unmoved r f h
+-- what is written are the destinations, which the record alone names
+pub writes-destinations : (x : Record) (f : Files) → placesOf (writes (x .instruction) f) ≡ destinations (x .instruction)
+writes-destinations x f = runs.writes-destinations (x .instruction) f
+
+pub others-stay : (x : Record) (f : Files) (q : Place) → (Listed q (destinations (x .instruction)) → ⊥) → at (run x f .files) q ≡ at f q
+others-stay x f q h = runs.others-stay x f q h
+
+pub lengths-stay : (x : Record) (f : Files) → SameLengths f (run x f .files)
+lengths-stay x f = runs.lengths-stay x f
+
+pub all-stays-unless-done : (x : Record) (f : Files) → (run x f .answer ≡ done → ⊥) → run x f .files ≡ f
+all-stays-unless-done x f h = runs.unless-done-unmoved x f h
 
 -- Every legal record is written as its one standard line, given a buffer with room for it, (and no byte behind it changes)
-pub writes-standard : (r : Record) (b : List ℕ) → Legal r → length (standard r) ≤ length b
-    → writing r b ≡ paper.outcome (written (length (standard r))) (standard r ++ drop (length (standard r)) b)
-unfolding writing
-writes-standard r b e h = rw (e, le-ltb (length b) (length (standard r)) h)
+pub writes-standard : (x : Record) (b : List ℕ) → Legal x → length (standard x) ≤ length b
+    → writing x b ≡ paper.outcome (written (length (standard x))) (standard x ++ drop (length (standard x)) b)
+writes-standard x b e h = outcomes.writes-standard x b e h
 
-pub room-of-160-is-enough : (r : Record) → Legal r → length (standard r) ≤ 160
-room-of-160-is-enough r h = standard-fits r h
+pub room-of-a-line-is-enough : (x : Record) → Legal x → length (standard x) ≤ lineLimit
+room-of-a-line-is-enough x h = standard-fits x h
 
 -- and reading that line gives the record again.
-pub reads-back : (r : Record) → Legal r → Answers (standard r) (read r)
-reads-back r h = promises.standard-reads r h
+pub reads-back : (x : Record) → Legal x → Answers (standard x) (read x)
+reads-back x h = promises.standard-reads x h
 
 -- ==== 3. A line is accepted exactly when the grammar of document 01, set down apart from the reader, relates it to a legal record.
 
-pub accepted-related : (l : List ℕ) (r : Record) → Answers l (read r) → Relates l r × Legal r
-accepted-related l r a = promises.accepted-related l r a
+pub accepted-related : (l : List ℕ) (x : Record) → Answers l (read x) → Relates l x × Legal x
+accepted-related l x a = promises.accepted-related l x a
 
-pub related-accepted : (l : List ℕ) (r : Record) → Relates l r → Legal r → Answers l (read r)
-related-accepted l r q h = promises.related-accepted l r q h
+pub related-accepted : (l : List ℕ) (x : Record) → Relates l x → Legal x → Answers l (read x)
+related-accepted l x q h = promises.related-accepted l x q h
+
+-- (and no line with the shape has a line feed)
+pub no-line-feed : (l : List ℕ) (t : LineTree) → Shaped l t → NoFeed l
+no-line-feed l t s = shapes.no-line-feed l t s
 
 -- No line is related to two records,
-pub one-record : (l : List ℕ) (r s : Record) → Relates l r → Relates l s → r ≡ s
-one-record l r s p q = laws.one-record l r s p q
+pub one-record : (l : List ℕ) (x y : Record) → Relates l x → Relates l y → x ≡ y
+one-record l x y a b = reader.one-record l x y a b
 
 -- every legal record has a line,
-pub has-line : (r : Record) → Legal r → (l : List ℕ) × Relates l r
-has-line r h = promises.has-line r h
+pub has-line : (x : Record) → Legal x → (l : List ℕ) × Relates l x
+has-line x h = promises.has-line x h
 
 -- two accepted lines have equal records exactly when their standard lines are equal.
-pub equal-standard-lines : (l k : List ℕ) (r s : Record) → Answers l (read r) → Answers k (read s) → standard r ≡ standard s → r ≡ s
-equal-standard-lines l k r s a b e = promises.same-line l k r s a b e
+pub equal-standard-lines : (l k : List ℕ) (x y : Record) → Answers l (read x) → Answers k (read y) → standard x ≡ standard y → x ≡ y
+equal-standard-lines l k x y a b e = promises.same-line l k x y a b e
 
-pub equal-records : (r s : Record) → r ≡ s → standard r ≡ standard s
-equal-records r s e = ap standard e
+pub equal-records : (x y : Record) → x ≡ y → standard x ≡ standard y
+equal-records x y e = ap standard e
 
 -- A line that is not accepted gets the first refusal, in document 01's order, that applies to it.
-pub not-accepted-refused : (l : List ℕ) → ((r : Record) → Relates l r → Legal r → ⊥) → (n : ℕ) × Answers l (refused n)
+
+-- n applies, and none before it in the order does
+pub refused-first : (l : List ℕ) (n : ℕ) → Answers l (refused n) → FirstOf l n readingOrder
+refused-first l n a = promises.refused-first l n a
+
+pub first-refused : (l : List ℕ) (n : ℕ) → FirstOf l n readingOrder → Answers l (refused n)
+first-refused l n f = promises.first-refused l n f
+
+-- an accepted line has no refusal that applies, and a line with none that applies is accepted
+pub accepted-none-applies : (l : List ℕ) (x : Record) → Answers l (read x) → (n : ℕ) → Applies l n → ⊥
+accepted-none-applies l x a n e = promises.accepted-none-applies l x a n e
+
+pub none-applies-accepted : (l : List ℕ) → ((n : ℕ) → Applies l n → ⊥) → (x : Record) × Answers l (read x)
+none-applies-accepted l h = answering.none-accepted l h
+
+pub not-accepted-refused : (l : List ℕ) → ((x : Record) → Relates l x → Legal x → ⊥) → (n : ℕ) × Answers l (refused n)
 not-accepted-refused l h = promises.unrelated-refused l h
 
-pub refused-not-accepted : (l : List ℕ) (n : ℕ) (r : Record) → Answers l (refused n) → Relates l r → Legal r → ⊥
-refused-not-accepted l n r a q h = promises.refused-unrelated l n r a q h
+pub refused-not-accepted : (l : List ℕ) (n : ℕ) (x : Record) → Answers l (refused n) → Relates l x → Legal x → ⊥
+refused-not-accepted l n x a q h = promises.refused-unrelated l n x a q h
 
-pub refusal-applies : (l : List ℕ) (n : ℕ) → Answers l (refused n) → Applies l n
-refusal-applies l n a = refusals.applies l n (promises.refused-refuses l n a)
+-- ==== demands 1 and 2 of one call: what is asked for, the answer a, and what the lent memory holds at exit
 
-pub no-earlier-applies : (l : List ℕ) (n k : ℕ) → Answers l (refused n) → k < n → Applies l k → ⊥
-no-earlier-applies l n k a h e = refusals.first-refusal l n k (promises.refused-refuses l n a) h e
+-- a line is read
+pub record ReadAsDemanded (l : List ℕ) (a : Answer) : Type 0 where
+  pub accepted : (x : Record) → a ≡ read x → Relates l x × Legal x
+  pub refused-first : (n : ℕ) → a ≡ refused n → FirstOf l n readingOrder
+
+-- a record is written into a buffer b, which holds c at exit
+pub record WrittenAsDemanded (x : Record) (b : List ℕ) (a : paper.Answer) (c : List ℕ) : Type 0 where
+  pub refused-as-lent : (n : ℕ) → a ≡ paper.refused n → Listed n (8 ∷ 9 ∷ []) × (c ≡ b)
+  pub standard-line : Legal x → length (standard x) ≤ length b → (a ≡ written (length (standard x))) × (c ≡ standard x ++ drop (length (standard x)) b)
+
+-- a record is executed on files f, which are g at exit
+pub record ExecutedAsDemanded (x : Record) (f : Files) (a : executing.Answer) (g : Files) : Type 0 where
+  pub refused-as-lent : (n : ℕ) → a ≡ executing.refused n → Listed n (8 ∷ 10 ∷ 11 ∷ []) × (g ≡ f)
+  pub done-where-legal : Legal x → Admitted f → guardHolds (f .preds) (x .guard) ≡ true → a ≡ done
+  pub destinations-hold : Legal x → Admitted f → guardHolds (f .preds) (x .guard) ≡ true → (w : Write) → Listed w (writes (x .instruction) f) → at g (w .place) ≡ w .value
+  pub skipped-where-false : Legal x → Admitted f → guardHolds (f .preds) (x .guard) ≡ false → (a ≡ skipped) × (g ≡ f)
+  pub others-stay : (q : Place) → (Listed q (destinations (x .instruction)) → ⊥) → at g q ≡ at f q
+  pub lengths-stay : SameLengths f g
+
+-- the equations that the contracts promise give them
+pub read-as-demanded : (l : List ℕ) (a : Answer) → Answers l a → ReadAsDemanded l a
+read-as-demanded l a h =
+    record {
+      accepted = λ x e. promises.accepted-related l x (rw (← e) h);
+      refused-first = λ n e. promises.refused-first l n (rw (← e) h);
+    }
+
+pub written-as-demanded : (x : Record) (b : List ℕ) (a : paper.Answer) (c : List ℕ) → paper.outcome a c ≡ writing x b → WrittenAsDemanded x b a c
+written-as-demanded x b a c h =
+    let said : a ≡ writing x b .answer = ap (λ (o : paper.Outcome). o .answer) h in
+    let left : c ≡ writing x b .buffer = ap (λ (o : paper.Outcome). o .buffer) h in
+    record {
+      refused-as-lent = λ n e. let k = outcomes.write-refused x b n (sym said ∙ e) in (k .0, left ∙ k .1);
+      standard-line = λ e room. let k = outcomes.writes-standard x b e room in (said ∙ ap (λ (o : paper.Outcome). o .answer) k, left ∙ ap (λ (o : paper.Outcome). o .buffer) k);
+    }
+
+pub executed-as-demanded : (x : Record) (f : Files) (a : executing.Answer) (g : Files) → executing.outcome a g ≡ run x f → ExecutedAsDemanded x f a g
+executed-as-demanded x f a g h =
+    let said : a ≡ run x f .answer = ap (λ (o : executing.Outcome). o .answer) h in
+    let left : g ≡ run x f .files = ap (λ (o : executing.Outcome). o .files) h in
+    record {
+      refused-as-lent = λ n e. let k = outcomes.execute-refused x f n (sym said ∙ e) in (k .0, left ∙ k .1);
+      done-where-legal = λ e i t. said ∙ ap (λ (o : executing.Outcome). o .answer) (runs.executes x f e i t);
+      destinations-hold = λ e i t w k. ap (λ (u : Files). at u (w .place)) left ∙ runs.holds-written x f e i t w k;
+      skipped-where-false = λ e i t. let k = runs.skips x f e i t in (said ∙ ap (λ (o : executing.Outcome). o .answer) k, left ∙ ap (λ (o : executing.Outcome). o .files) k);
+      others-stay = λ q k. ap (λ (u : Files). at u q) left ∙ runs.others-stay x f q k;
+      lengths-stay = rw left (runs.lengths-stay x f);
+    }

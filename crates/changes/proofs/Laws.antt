@@ -15,7 +15,8 @@ use Rattle.signs.specs.Text.{bytes}
 use Rattle.record.specs.Registers.{wordCount, doubleCount, predCount, Files, at}
 use Rattle.rules.specs.Shape.{digit, numberText, registerText}
 use Rattle.text.specs.Buffer.{Buffer, buffer, filled, Puts, whole-front}
-use Rattle.text.specs.Digits.{decimal, one-digit, more-digits, hex, hex-length}
+use Rattle.signs.specs.Digits.{decimal, hex}
+use Rattle.text.specs.DigitLaws.{one-digit, more-digits, hex-length}
 use Rattle.signs.specs.Bytes.{lineFeed}
 use Rattle.changes.specs.Changes.{startValue, digitsOf, valueText, changeText, changesText, registersText}
 use Rattle.changes.specs.Registers.{placeOf, countOf, prefixOf, valueRoom, registersRoom, printed-bytes, printOutcome, printing}
@@ -33,7 +34,7 @@ decimal-number n h = by-size (decLt n 10)
     by-size (no a) =
         let k : 10 ≤ n = omega arith in
         let m : n / 10 < 10 = omega arith in
-        rw (le-ltb n 10 k, lt-ltb n 100 h) (more-digits n k (omega arith) ∙ rw (one-digit (n / 10) m) (ap (λ (d : ℕ). d ∷ digit n ∷ []) (omega arith)))
+        rw (le-ltb n 10 k, lt-ltb n 100 h) (more-digits n k ∙ rw (one-digit (n / 10) m) (ap (λ (d : ℕ). d ∷ digit n ∷ []) (omega arith)))
 
 register-text : (file : File) (k : ℕ) → k < 100 → prefixOf file ++ decimal k ≡ registerText (placeOf file k)
 register-text Words k h = ap (λ (t : List ℕ). bytes "%r" ++ t) (decimal-number k h)

@@ -8,7 +8,7 @@ use Rattle.signs.specs.Bytes.{lineFeed}
 use Rattle.signs.specs.Text.{bytes}
 use Rattle.record.specs.Registers.{wordCount, doubleCount, predCount, Files, files, Place, word, double, pred, at}
 use Rattle.rules.specs.Shape.{registerText}
-use Rattle.text.specs.Digits.{hex}
+use Rattle.signs.specs.Digits.{hex}
 
 -- 01010101 hex
 abbrev pub wordStep : ℕ

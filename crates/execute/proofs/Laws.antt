@@ -2,7 +2,7 @@
 use Prim.Native.Nat.{ℕ, zero, suc, _+_, _<_, _≤_}
 use native.Mathlib.Omega.{arith}
 use native.Mathlib.Numerals.{add-one}
-use mathlib.Core.Path.{_≡_, refl, _∙_}
+use mathlib.Core.Path.{_≡_, refl, ap, _∙_}
 use mathlib.Core.Bool.{Bool, Bool·beq, true, false, not, cond}
 use mathlib.Core.List.{List, [], _∷_}
 use lib.ListN.{getD, drop, length}
@@ -80,7 +80,7 @@ module _ (x : Record) (f : Files) where
   first = firstExecuting (not (isLegal x)) (not (sizesFit f)) (not (predsFit (f .preds)))
 
   -- what the tests say of the outcome
-  by-tests : (a b c : Bool) → Outcome
+  abbrev by-tests : Bool → Bool → Bool → Outcome
   by-tests a b c =
       cond a (outcome (refused 8) f)
       (cond b (outcome (refused 10) f)
@@ -89,9 +89,9 @@ module _ (x : Record) (f : Files) where
       (outcome skipped f))))
 
   refused-by : (a b c : Bool) (n : ℕ) → n ≡ firstExecuting a b c → (n ≡ 0 → ⊥) → outcome (refused n) f ≡ by-tests a b c
-  refused-by true b c n e h = rw e
-  refused-by false true c n e h = rw e
-  refused-by false false true n e h = rw e
+  refused-by true b c n e h = ap (λ (k : ℕ). outcome (refused k) f) e
+  refused-by false true c n e h = ap (λ (k : ℕ). outcome (refused k) f) e
+  refused-by false false true n e h = ap (λ (k : ℕ). outcome (refused k) f) e
   refused-by false false false n e h = absurd (h e)
 
   passed-by : (a b c : Bool) (n : ℕ) → n ≡ firstExecuting a b c → n ≡ 0 → by-tests false false false ≡ by-tests a b c
@@ -106,8 +106,12 @@ module _ (x : Record) (f : Files) where
 
   pub ends-skipped : (n : ℕ) → n ≡ first → n ≡ 0 → guardHolds (f .preds) (x .guard) ≡ false → outcome skipped f ≡ run x f
   unfolding run
-  ends-skipped n e z g = rw (← passed-by (not (isLegal x)) (not (sizesFit f)) (not (predsFit (f .preds))) n e z, g)
+  ends-skipped n e z g =
+      let k : outcome skipped f ≡ by-tests false false false = rw g in
+      k ∙ passed-by (not (isLegal x)) (not (sizesFit f)) (not (predsFit (f .preds))) n e z
 
   pub ends-done : {u : Files} (n : ℕ) → n ≡ first → n ≡ 0 → guardHolds (f .preds) (x .guard) ≡ true → u ≡ after (x .instruction) f → outcome done u ≡ run x f
   unfolding run
-  ends-done n e z g a = rw (← passed-by (not (isLegal x)) (not (sizesFit f)) (not (predsFit (f .preds))) n e z, g, a)
+  ends-done {u} n e z g a =
+      let k : outcome done u ≡ by-tests false false false = rw (g, a) in
+      k ∙ passed-by (not (isLegal x)) (not (sizesFit f)) (not (predsFit (f .preds))) n e z

@@ -1,6 +1,7 @@
 pub mod ExecutionLaws
 pub mod ShapeLaws
 pub mod PlaceLaws
+pub mod OutcomeLaws
 pub mod RunLaws
 pub mod FloatOrder
 pub mod FloatLaws

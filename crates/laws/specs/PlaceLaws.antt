@@ -185,7 +185,7 @@ all-inside x =
     ∙ rw (guard-inside (x .guard), instruction-inside (x .instruction))
 
 -- a test that holds of a list, and one that does not
-of-every : {A : Type 0} (q : A → Bool) (l : List A) → every q l ≡ true → (x : A) → Listed x l → q x ≡ true
+pub of-every : {A : Type 0} (q : A → Bool) (l : List A) → every q l ≡ true → (x : A) → Listed x l → q x ≡ true
 of-every q (y ∷ l) e x (here h) = let k = simp and-eq-true-iff at e in rw h (k .0)
 of-every q (y ∷ l) e x (later h) = let k = simp and-eq-true-iff at e in of-every q l (k .1) x h
 

@@ -1,14 +1,15 @@
 -- Document 01's demand 3, and reading back of demand 2, as laws of the grammar and of `Answers`. Assumes nothing.
-use mathlib.Core.Path.{_≡_, ap, subst}
-use mathlib.Core.List.{List}
+use mathlib.Core.Path.{_≡_, refl, ap, subst}
+use mathlib.Core.List.{List, _∷_}
 use Prim.Native.Nat.{ℕ}
 use native.Mathlib.Omega.{arith}
 use Rattle.record.specs.Refusals.{Legal}
 use Rattle.record.specs.declared.Record.{Record}
 use Rattle.rules.specs.StandardLine.{standard}
 use Rattle.laws.specs.StandardTree.{standard-relates}
-use Rattle.rules.specs.Reading.{Relates, Answer, read, refused, Answers, accepts, refuses}
-use Rattle.read.specs.Answering.{answers, answers-unique}
+use Rattle.rules.specs.Reading.{Relates, Listed, Applies, readingOrder, FirstOf, this, next, Answer, read, refused, Answers, accepts, refuses}
+use Rattle.rules.specs.Reading.Listed.{here, later}
+use Rattle.read.specs.Answering.{answers, answers-unique, accepted-none}
 use Rattle.read.specs.Mirror.{readOf}
 
 -- a line is accepted exactly when the grammar relates it to a legal record
@@ -17,6 +18,23 @@ accepted-related l m (accepts n r h) = (r, h)
 
 pub related-accepted : (l : List ℕ) (m : Record) → Relates l m → Legal m → Answers l (read m)
 related-accepted l m r h = accepts m r h
+
+-- a line that is not accepted gets the first refusal that applies
+pub refused-first : (l : List ℕ) (n : ℕ) → Answers l (refused n) → FirstOf l n readingOrder
+refused-first l n (refuses f) = f
+
+pub first-refused : (l : List ℕ) (n : ℕ) → FirstOf l n readingOrder → Answers l (refused n)
+first-refused l n f = refuses f
+
+pub accepted-none-applies : (l : List ℕ) (m : Record) → Answers l (read m) → (n : ℕ) → Applies l n → ⊥
+accepted-none-applies l m (accepts k r h) n e = accepted-none l m r h n e
+
+first-listed : (l : List ℕ) (n : ℕ) (ns : List ℕ) → FirstOf l n ns → Listed n ns
+first-listed l n (k ∷ ns) (this a) = here refl
+first-listed l n (k ∷ ns) (next z f) = later (first-listed l n ns f)
+
+pub refused-listed : (l : List ℕ) (n : ℕ) → Answers l (refused n) → Listed n readingOrder
+refused-listed l n (refuses f) = first-listed l n readingOrder f
 
 -- a line that is refused is related to no legal record, and one that is related to none is refused
 pub refused-unrelated : (l : List ℕ) (n : ℕ) (m : Record) → Answers l (refused n) → Relates l m → Legal m → ⊥

@@ -14,7 +14,7 @@ use Rattle.rules.specs.StandardLine.{standard}
 use Rattle.laws.specs.LineLengths.{standard-fits}
 use Rattle.rules.specs.Writing.{Answer, Outcome, written, refused, outcome, writing}
 use Rattle.text.specs.Buffer.{Buffer, buffer, Puts, _then_}
-use Rattle.text.specs.Digits.{decimal}
+use Rattle.signs.specs.Digits.{decimal}
 use Rattle.report.specs.Listing.{lineText}
 use Rattle.signs.specs.Bytes.{lineFeed}
 use Rattle.report.specs.Chunks.{PutsAnswer, PutsTurn}

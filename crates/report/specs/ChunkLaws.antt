@@ -1,11 +1,11 @@
 -- Laws of the code's way through a listing: what a turn of its loops needs. Assumes nothing.
-use Prim.Native.Nat.{ℕ, suc, _+_, _-_, _≤_, _<_}
+use Prim.Native.Nat.{ℕ, suc, _+_, _-_, _^_, _≤_, _<_}
 use native.Mathlib.Nat.{sub-zero}
 use native.Mathlib.Numerals.{add-one}
 use native.Mathlib.Omega.{arith}
 use mathlib.Core.Path.{_≡_, refl, sym, _∙_, subst}
 use mathlib.Core.Bool.{Bool, true, false, _&&_, cond}
-use mathlib.Core.List.{List, [], _++_, append-assoc, append-nil}
+use mathlib.Core.List.{List, [], _∷_, _++_, append-assoc, append-nil}
 use lib.ListN.{length, drop, getD, length-append, drop-of-length-le}
 use lib.Seq.{drop-cons}
 use lib.Dec.{ltb, leb}
@@ -16,10 +16,14 @@ use Rattle.record.specs.Registers.{Files}
 use Rattle.rules.specs.Executing.{run, done, skipped}
 use Rattle.rules.specs.Executing as executing
 use Rattle.laws.specs.LineLengths.{longestLine, standard-length}
-use Rattle.rules.specs.Reading.{Answer, Answers, accepts, read, refused}
+use Rattle.rules.specs.Reading.{Listed, readingOrder, Answer, Answers, accepts, read, refused}
+use Rattle.base.specs.Values.{every}
+use Rattle.laws.specs.PlaceLaws.{of-every}
+use Rattle.laws.specs.OutcomeLaws.{execute-refused}
+use Rattle.read.specs.Promises.{refused-listed}
 use Rattle.text.specs.Buffer.{buffer, Puts, _then_, whole-front}
-use Rattle.text.specs.Digits.{decimal-short}
-use Rattle.report.specs.Listing.{executedText, answerText, lineText, Turn, listingLimit, tooLongText}
+use Rattle.text.specs.DigitLaws.{decimal-short}
+use Rattle.report.specs.Listing.{refusedText, executedText, answerText, lineText, Turn, listingLimit, tooLongText}
 use Rattle.signs.specs.Bytes.{lineFeed}
 use Rattle.report.specs.Chunks.{lineLength, lineAt, behind, nextPlace, nextNumber, lineRoom, PutsTurn, Some, ended, no-room, too-long, one-more, Prints}
 
@@ -57,19 +61,25 @@ further-on size from end h k = go (ltb end size) refl
 pub legal-of : {l : List ℕ} {r : Record} → Answers l (read r) → Legal r
 legal-of (accepts m q h) = h
 
-executed-short : (a : executing.Answer) (r : Record) → Legal r → length (executedText a r) ≤ 8 + longestLine
-executed-short done r h = simp length-append (omega (arith, standard-length r h))
-executed-short skipped r h = simp length-append (omega (arith, standard-length r h))
-executed-short (executing.refused n) r h = simp length-append (omega (arith, decimal-short n))
+-- the numbers of refusals have at most two digits
+low-number : {n : ℕ} (ns : List ℕ) → every (λ k. ltb k 100) ns ≡ true → Listed n ns → length (refusedText n) ≤ 28
+low-number {n} ns e h =
+    let k = ltb-true n 100 (of-every (λ k. ltb k 100) ns e n h) in
+    simp length-append (omega (arith, decimal-short n (omega arith)))
+
+executed-short : (a : executing.Answer) (r : Record) (f : Files) → Legal r → run r f .answer ≡ a → length (executedText a r) ≤ 8 + longestLine
+executed-short done r f h e = simp length-append (omega (arith, standard-length r h))
+executed-short skipped r f h e = simp length-append (omega (arith, standard-length r h))
+executed-short (executing.refused n) r f h e = let k = low-number (8 ∷ 10 ∷ 11 ∷ []) refl (execute-refused r f n e .0) in omega arith
 
 answer-short : {l : List ℕ} (a : Answer) (f : Files) → Answers l a → length (answerText a f) ≤ 8 + longestLine
-answer-short (read r) f q = executed-short (run r f .answer) r (legal-of q)
-answer-short (refused n) f q = simp length-append (omega (arith, decimal-short n))
+answer-short (read r) f q = executed-short (run r f .answer) r f (legal-of q) refl
+answer-short {l} (refused n) f q = let k = low-number readingOrder refl (refused-listed l n q) in omega arith
 
-pub turn-short : {n : ℕ} {l t : List ℕ} {f g : Files} → Turn n l f t g → length t ≤ lineRoom
+pub turn-short : {n : ℕ} {l t : List ℕ} {f g : Files} → n < 2 ^ 64 → Turn n l f t g → length t ≤ lineRoom
 unfolding lineText
-turn-short {n} {l} {t} {f} {g} u =
-    rw (u .text) (simp length-append (omega (arith, decimal-short n, answer-short (u .answer) f (u .answers))))
+turn-short {n} {l} {t} {f} {g} h u =
+    rw (u .text) (simp length-append (omega (arith, decimal-short n h, answer-short (u .answer) f (u .answers))))
 
 -- ==== the loop over the lines
 
@@ -101,10 +111,10 @@ module _ {s : List ℕ} {from first : ℕ} {f : Files} {start : List ℕ} {at n 
   used-length = whole-front (a .puts) (a .fits) .0
 
   -- one line more
-  pub goes-on : {h : Files} {after : List ℕ} {next : ℕ} → at < length s → lineRoom ≤ length start - used → length s ≤ listingLimit
+  pub goes-on : {h : Files} {after : List ℕ} {next : ℕ} → n < 2 ^ 64 → at < length s → lineRoom ≤ length start - used → length s ≤ listingLimit
       → PutsTurn n (lineAt s at) g h (buffer out used) (buffer after next) → Going s from first f start (nextPlace s at) (nextNumber n) next h after
-  goes-on {h} {after} {next} i r l p =
-      let b : length (p .text) ≤ lineRoom = turn-short (p .turn) in
+  goes-on {h} {after} {next} w i r l p =
+      let b : length (p .text) ≤ lineRoom = turn-short w (p .turn) in
       let d : length start - length (a .text ++ p .text) ≡ length start - length (a .text) - length (p .text) = simp length-append (omega arith) in
       record {
         text = a .text ++ p .text;

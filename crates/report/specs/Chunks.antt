@@ -10,7 +10,7 @@ use Rattle.rules.specs.Writing.{front}
 use Rattle.laws.specs.LineLengths.{longestLine}
 use Rattle.rules.specs.Reading.{Answer, Answers}
 use Rattle.text.specs.Buffer.{Buffer, Puts}
-use Rattle.text.specs.Digits.{mostDigits}
+use Rattle.text.specs.DigitLaws.{mostDigits}
 use Rattle.report.specs.Listing.{answerText, filesAfter, Turn, listingLimit, tooLongText}
 use Rattle.signs.specs.Bytes.{lineFeed}
 

@@ -12,7 +12,7 @@ use Rattle.rules.specs.Executing.{done, skipped, run}
 use Rattle.rules.specs.Executing as executing
 use Rattle.rules.specs.StandardLine.{standard}
 use Rattle.rules.specs.Reading.{Answer, read, refused, Answers}
-use Rattle.text.specs.Digits.{decimal}
+use Rattle.signs.specs.Digits.{decimal}
 use Rattle.signs.specs.Bytes.{lineFeed}
 use Rattle.changes.specs.Changes.{startFiles, registersText}
 

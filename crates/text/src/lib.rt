@@ -5,7 +5,7 @@ ghost use Prim.Native.Nat.{_+_, _-_, _%_, _≤_, _<_};
 ghost use lib.ListN.{length};
 ghost use lib.Seq.{paste};
 ghost use Rattle.text.specs.Buffer.{buffer, Puts};
-ghost use Rattle.text.specs.Digits.{zeroByte, decimal, hexDigit, hex};
+ghost use Rattle.signs.specs.Digits.{zeroByte, decimal, hexDigit, hex};
 ghost use Rattle.base.specs.Pack.{unpacked, spelled};
 
 // One byte; answers the next place.

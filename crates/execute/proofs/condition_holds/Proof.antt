@@ -8,8 +8,7 @@ pred-at-requires c κs = search needs
 
 returns : tie.Need-returns
 returns c =
-    simp
-    (c .before .pred-at .ensures, inverts)
+    rw (c .before .pred-at .ensures) (inverts _ _)
 
 pub condition-holds-spec : {M : Type 1} → statement M
 condition-holds-spec = tie.close (tie.spec pred-at-requires returns)

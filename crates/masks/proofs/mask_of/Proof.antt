@@ -7,7 +7,7 @@ use borrow.Author.Tests.{eq-eqb, ne-eqb}
 use Rattle.base.specs.Pack.{radix, pack}
 use Rattle.rules.specs.Numbers.{lanes}
 use Rattle.rules.specs.Names.{laneLetter}
-use Rattle.text.specs.Digits.{zeroByte}
+use Rattle.signs.specs.Digits.{zeroByte}
 use Rattle.masks.specs.Masks.{falling, maskOf}
 use Rattle.masks.specs.MaskLaws.{falls, stops, ends}
 use Rattle.masks.proofs.mask_of.Statement.{statement}

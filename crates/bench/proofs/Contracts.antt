@@ -1,0 +1,33 @@
+-- Demands 1 and 2 of the contracts of `read`, `write` and `execute` as they stand in src/lib.rt: whatever a call answers and leaves is as
+-- demanded. If a contract were weaker, a law here would fail.
+use contract.Lifetimes.{Lfts}
+use borrow.Fn.Kinds.{Dens, endedOf}
+use denote.Triple.Clauses.{AtExit}
+use denote.Ref.{now}
+use Rattle.record.specs.Registers.{files}
+use Rattle.read.specs.Paper as reading
+use Rattle.read.specs.declared.Reading.{Reading}
+use Rattle.write.specs.Answers as writing
+use Rattle.write.specs.declared.Written.{Written}
+use Rattle.execute.specs.Answers as executing
+use Rattle.execute.specs.declared.Executed.{Executed}
+use Rattle.bench.specs.Demands.{ReadAsDemanded, read-as-demanded, WrittenAsDemanded, written-as-demanded, ExecutedAsDemanded, executed-as-demanded}
+use Rattle.bench.proofs.read.Reads as read
+use Rattle.bench.proofs.read.Kinds as read-kinds
+use Rattle.bench.proofs.write.Reads as write
+use Rattle.bench.proofs.write.Kinds as write-kinds
+use Rattle.bench.proofs.execute.Reads as execute
+use Rattle.bench.proofs.execute.Kinds as execute-kinds
+
+pub read-demanded : (κs : Lfts 1) (a : Dens κs read-kinds.ps) (x : Reading) (s : AtExit (endedOf 1 read-kinds.ps read-kinds.r) κs)
+    → read.Post κs a x s → ReadAsDemanded (now (a .0)) (reading.answerOf x)
+read-demanded κs a x s h = read-as-demanded (now (a .0)) (reading.answerOf x) h
+
+pub write-demanded : (κs : Lfts 1) (a : Dens κs write-kinds.ps) (x : Written) (s : AtExit (endedOf 1 write-kinds.ps write-kinds.r) κs)
+    → write.Post κs a x s → WrittenAsDemanded (a .0) (now (a .1 .0)) (writing.answerOf x) (now (s .1 .0))
+write-demanded κs a x s h = written-as-demanded (a .0) (now (a .1 .0)) (writing.answerOf x) (now (s .1 .0)) h
+
+pub execute-demanded : (κs : Lfts 3) (a : Dens κs execute-kinds.ps) (x : Executed) (s : AtExit (endedOf 3 execute-kinds.ps execute-kinds.r) κs)
+    → execute.Post κs a x s
+    → ExecutedAsDemanded (a .0) (files (now (a .1 .0)) (now (a .1 .1 .0)) (now (a .1 .1 .1 .0))) (executing.answerOf x) (files (now (s .1 .0)) (now (s .1 .1 .0)) (now (s .1 .1 .1 .0)))
+execute-demanded κs a x s h = executed-as-demanded (a .0) _ (executing.answerOf x) _ h

@@ -1,0 +1,81 @@
+-- The outcomes of writing and executing one by one, and which numbers they refuse with. Assumes nothing.
+use Prim.Native.Nat.{ℕ, _≤_, _<_}
+use native.Mathlib.Omega.{arith}
+use mathlib.Core.Path.{_≡_, refl}
+use mathlib.Core.Bool.{Bool, true, false, not, cond}
+use mathlib.Core.List.{List, [], _∷_}
+use lib.Dec.{ltb}
+use lib.ListN.{length}
+use borrow.Author.Tests.{lt-ltb, le-ltb}
+use Rattle.record.specs.Registers.{Files}
+use Rattle.record.specs.Refusals.{isLegal, Legal}
+use Rattle.record.specs.declared.Record.{Record}
+use Rattle.rules.specs.StandardLine.{standard}
+use Rattle.rules.specs.Reading.{Listed}
+use Rattle.rules.specs.Reading.Listed.{here, later}
+use Rattle.rules.specs.Writing.{written, refused, Outcome, outcome, front, writing}
+use Rattle.rules.specs.Executing as executing
+use Rattle.rules.specs.Executing.{sizesFit, predsFit, guardHolds, after, done, skipped, run}
+
+-- ==== writing
+
+module _ (x : Record) (b : List ℕ) where
+  pub write-8 : isLegal x ≡ false → writing x b ≡ outcome (refused 8) b
+  unfolding writing
+  write-8 e = rw e
+
+  pub write-9 : Legal x → length b < length (standard x) → writing x b ≡ outcome (refused 9) b
+  unfolding writing
+  write-9 e h = rw (e, lt-ltb (length b) (length (standard x)) h)
+
+  pub writes-standard : Legal x → length (standard x) ≤ length b → writing x b ≡ outcome (written (length (standard x))) (front (standard x) b)
+  unfolding writing
+  writes-standard e h = rw (e, le-ltb (length b) (length (standard x)) h)
+
+  -- a refusal has number 8 or 9, and the buffer is as it was lent
+  pub write-refused : (n : ℕ) → writing x b .answer ≡ refused n → Listed n (8 ∷ 9 ∷ []) × (writing x b .buffer ≡ b)
+  unfolding writing
+  write-refused n = go (not (isLegal x)) (ltb (length b) (length (standard x)))
+    where
+      said : Bool → Bool → Outcome
+      said illegal short =
+          cond illegal (outcome (refused 8) b) (cond short (outcome (refused 9) b) (outcome (written (length (standard x))) (front (standard x) b)))
+
+      go : (i s : Bool) → said i s .answer ≡ refused n → Listed n (8 ∷ 9 ∷ []) × (said i s .buffer ≡ b)
+      go true s e = let h : n ≡ 8 = cc in (here h, refl)
+      go false true e = let h : n ≡ 9 = cc in (later (here h), refl)
+      go false false e = let h : _≡_ {A = ℕ} 0 1 = cc in absurd (omega arith)
+
+-- ==== executing
+
+module _ (x : Record) (f : Files) where
+  pub execute-8 : isLegal x ≡ false → run x f ≡ executing.outcome (executing.refused 8) f
+  unfolding run
+  execute-8 e = rw e
+
+  pub execute-10 : Legal x → sizesFit f ≡ false → run x f ≡ executing.outcome (executing.refused 10) f
+  unfolding run
+  execute-10 e s = rw (e, s)
+
+  pub execute-11 : Legal x → sizesFit f ≡ true → predsFit (f .preds) ≡ false → run x f ≡ executing.outcome (executing.refused 11) f
+  unfolding run
+  execute-11 e s p = rw (e, s, p)
+
+  -- a refusal has number 8, 10 or 11, and the files are as they were lent
+  pub execute-refused : (n : ℕ) → run x f .answer ≡ executing.refused n → Listed n (8 ∷ 10 ∷ 11 ∷ []) × (run x f .files ≡ f)
+  unfolding run
+  execute-refused n = go (not (isLegal x)) (not (sizesFit f)) (not (predsFit (f .preds))) (guardHolds (f .preds) (x .guard))
+    where
+      said : Bool → Bool → Bool → Bool → executing.Outcome
+      said i s p g =
+          cond i (executing.outcome (executing.refused 8) f)
+          (cond s (executing.outcome (executing.refused 10) f)
+          (cond p (executing.outcome (executing.refused 11) f)
+          (cond g (executing.outcome done (after (x .instruction) f)) (executing.outcome skipped f))))
+
+      go : (i s p g : Bool) → said i s p g .answer ≡ executing.refused n → Listed n (8 ∷ 10 ∷ 11 ∷ []) × (said i s p g .files ≡ f)
+      go true s p g e = let h : n ≡ 8 = cc in (here h, refl)
+      go false true p g e = let h : n ≡ 10 = cc in (later (here h), refl)
+      go false false true g e = let h : n ≡ 11 = cc in (later (later (here h)), refl)
+      go false false false true e = let h : _≡_ {A = ℕ} 0 1 = cc in absurd (omega arith)
+      go false false false false e = let h : _≡_ {A = ℕ} 0 1 = cc in absurd (omega arith)
