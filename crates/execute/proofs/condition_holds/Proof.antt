@@ -1,3 +1,5 @@
+use denote.Ref.{now}
+use Rattle.rules.specs.Executing.{predHolds}
 use Rattle.execute.proofs.Laws.{inverts}
 use borrow.Author.Needs.{needs}
 use Rattle.execute.proofs.condition_holds.Statement.{statement}
@@ -8,7 +10,8 @@ pred-at-requires c κs = search needs
 
 returns : tie.Need-returns
 returns c =
-    rw (c .before .pred-at .ensures) (inverts _ _)
+    let a = c .before .before .before .args in
+    rw (c .before .pred-at .ensures) (inverts (a .c .inverted) (predHolds (now (a .preds)) (a .c .pred)))
 
 pub condition-holds-spec : {M : Type 1} → statement M
 condition-holds-spec = tie.close (tie.spec pred-at-requires returns)
