@@ -19,6 +19,17 @@ use Rattle.bench.proofs.write.Kinds as write-kinds
 use Rattle.bench.proofs.execute.Reads as execute
 use Rattle.bench.proofs.execute.Kinds as execute-kinds
 
+-- Each entry point tests its own input: nothing is asked of the caller
+pub read-asks-nothing : (κs : Lfts 1) (a : Dens κs read-kinds.ps) → read.Pre κs a
+read-asks-nothing κs a = tt
+
+pub write-asks-nothing : (κs : Lfts 1) (a : Dens κs write-kinds.ps) → write.Pre κs a
+write-asks-nothing κs a = tt
+
+pub execute-asks-nothing : (κs : Lfts 3) (a : Dens κs execute-kinds.ps) → execute.Pre κs a
+execute-asks-nothing κs a = tt
+
+-- the answer and the memory at exit
 pub read-demanded : (κs : Lfts 1) (a : Dens κs read-kinds.ps) (x : Reading) (s : AtExit (endedOf 1 read-kinds.ps read-kinds.r) κs)
     → read.Post κs a x s → ReadAsDemanded (now (a .0)) (reading.answerOf x)
 read-demanded κs a x s h = read-as-demanded (now (a .0)) (reading.answerOf x) h

@@ -14,7 +14,7 @@ use Rattle.record.specs.Registers.{Files}
 use Rattle.rules.specs.Reading.{Answer}
 use Rattle.rules.specs.Writing.{front}
 use Rattle.read.specs.Mirror.{readOf}
-use Rattle.read.specs.Laws.{answers, answers-unique}
+use Rattle.read.specs.Answering.{answers, answers-unique}
 use Rattle.report.specs.declared.Progress.{Progress}
 use Rattle.report.specs.Listing.{linesWith, linesOf, lineText, filesAfter, Turn, Turns, none, more, listingLimit, tooLongText, Output, too-long, printed}
 use Rattle.signs.specs.Bytes.{lineFeed}

@@ -2,7 +2,7 @@ use mathlib.Core.Path.{_≡_}
 use contract.Lifetimes.{Lfts}
 use borrow.Fn.Kinds.{Dens, endedOf}
 use denote.Triple.Clauses.{AtExit}
-use Rattle.read.specs.Laws.{answers-unique}
+use Rattle.read.specs.Answering.{answers-unique}
 use Rattle.read.specs.Paper.{answers-one}
 use Rattle.read.specs.declared.Reading.{Reading}
 use Rattle.bench.proofs.read.Reads as reads

@@ -3,7 +3,9 @@ use Rattle.report.specs.ChunkLaws.{used-length}
 use denote.Ref.{now}
 use Rattle.report.specs.ChunkLaws.{room-there}
 use borrow.Author.Needs.{needs}
-use Prim.Native.Nat.{_-_, _≤_}
+use Prim.Native.Nat.{_-_, _^_, _≤_, _<_}
+use native.Mathlib.Nat.{mod-lt}
+use lib.Dec.{lit<}
 use native.Mathlib.Omega.{arith}
 use mathlib.Core.Path.{_≡_, sym, _∙_}
 use lib.ListN.{length, drop}
@@ -20,12 +22,13 @@ Inv-loop listing from first words₀ doubles₀ preds₀ out₀ at₀ number₀ 
     × (length preds ≡ length preds₀)
     × (length out ≡ length out₀)
     × Going listing from first (files words₀ doubles₀ preds₀) out₀ at number used (files words doubles preds) out
+    × (number < 2 ^ 64)
 
 abbrev μ-loop : tie.MeasureT-loop
 μ-loop listing from first words₀ doubles₀ preds₀ out₀ at₀ number₀ used₀ words doubles preds out at number used = length listing - at
 
 loop-holds : tie.Need-loop-holds Inv-loop μ-loop
-loop-holds c = (search needs, search needs, search needs, search needs, search needs, begins _ _ _ _ _)
+loop-holds c = (search needs, search needs, search needs, search needs, search needs, begins _ _ _ _ _, search needs)
 
 sub-goes-on : tie.Need-sub-goes-on Inv-loop μ-loop
 sub-goes-on c = search needs
@@ -68,13 +71,14 @@ loop-again c =
     let h = room-there (length (now (c .before .before .before .before .before .before .before .before .before .before .before .before .before .before .before .before .before .before .before .before .before .before .before .before .before .args .listing))) (c .before .before .before .before .before .before .before .before .before .before .before .before .before .before .before .before .before .before .before .loop .at) (length (c .before .before .before .before .before .before .before .before .before .before .before .before .before .before .before .before .before .before .before .loop .out) - c .before .before .before .before .before .before .before .before .before .before .before .before .before .before .before .before .before .before .before .loop .used) (c .before .before .before .before .before .before .before .before .before .before .before .before .before .before .before .before .before .before .goes-on .ensures) (c .before .before .before .before .before .before .before .before .before .before .before .before .before .before .before .before .before .if1 .taken) in
     let e = c .before .before .before .before .before .before .before .before .before .before .before .before .before .before .before .before .line-end .ensures .1 in
     let q : c .before .before .before .before .before .before .before .before .before .before .before .before .before .before .before .before .line-end .result - c .before .before .before .before .before .before .before .before .before .before .before .before .before .before .before .before .before .before .before .loop .at ≡ lineLength (drop (c .before .before .before .before .before .before .before .before .before .before .before .before .before .before .before .before .before .before .before .loop .at) (now (c .before .before .before .before .before .before .before .before .before .before .before .before .before .before .before .before .before .before .before .before .before .before .before .before .before .args .listing))) = omega (arith, e) in
-    let g = goes-on (c .before .before .before .before .before .before .before .before .before .before .before .before .before .before .before .before .before .before .before .loop .inv .5) (search needs) (h .0) (rw (c .before .before .before .before .before .before .before .before .before .before .before .before .before .before .before .before .before .before .before .loop .inv .4) at (h .1)) (c .before .before .before .before .before .before .before .before .before .before .before .before .before .before .before .before .before .before .before .before .before .before .before .before .before .pre) (rw q at (c .before .before .before .before .before .before .before .before .before .before .put-line .ensures)) in (
+    let g = goes-on (c .before .before .before .before .before .before .before .before .before .before .before .before .before .before .before .before .before .before .before .loop .inv .5) (c .before .before .before .before .before .before .before .before .before .before .before .before .before .before .before .before .before .before .before .loop .inv .6) (h .0) (rw (c .before .before .before .before .before .before .before .before .before .before .before .before .before .before .before .before .before .before .before .loop .inv .4) at (h .1)) (c .before .before .before .before .before .before .before .before .before .before .before .before .before .before .before .before .before .before .before .before .before .before .before .before .before .pre) (rw q at (c .before .before .before .before .before .before .before .before .before .before .put-line .ensures)) in (
       omega (arith, used-length g, g .fits),
       search needs,
       search needs,
       search needs,
       search needs,
       rw (c .next-place .ensures, e, c .before .wrapping-add-u64 .ensures) g,
+      rw (c .before .wrapping-add-u64 .ensures) (mod-lt _ (lit< tt)),
     )
 
 same-length : tie.Need-same-length Inv-loop μ-loop
