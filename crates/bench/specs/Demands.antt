@@ -8,7 +8,8 @@ use mathlib.Core.Bool.{Bool, true, false, not, _&&_, cond}
 use mathlib.Core.List.{List, [], _∷_, _++_}
 use lib.ListN.{length, drop}
 use lib.IntN.{pos, _+ℤ_}
-use Rattle.record.specs.Registers.{Files, Place, r, p, at, Inside}
+use Rattle.signs.specs.Bytes.{lineFeed}
+use Rattle.record.specs.Registers.{Files, Place, r, p, at, Inside, SameLengths}
 use Rattle.record.specs.Refusals.{isLegal, Legal}
 use Rattle.record.specs.declared.Cmp6.{Cmp6}
 use Rattle.record.specs.declared.LaneArith.{LaneArith}
@@ -27,14 +28,11 @@ use Rattle.rules.specs.Writing.{written, writing}
 use Rattle.rules.specs.Numbers.{wordSize, laneSize, lanes, partAt, lowOf, bit}
 use Rattle.rules.specs.Execution.{maskAt, laneHolds, count, laneResult, sumZ}
 use Rattle.rules.specs.Executing as executing
-use Rattle.rules.specs.Executing.{destinations, Write, writes, after, combinedOf, testOf, sizesFit, predsFit, Admitted, guardHolds, done, skipped, run}
+use Rattle.rules.specs.Executing.{destinations, named, Write, placesOf, writes, after, combinedOf, testOf, sizesFit, predsFit, Admitted, guardHolds, done, skipped, run}
 use Rattle.laws.specs.ShapeLaws as shapes
-use Rattle.laws.specs.ShapeLaws.{NoFeed}
 use Rattle.laws.specs.PlaceLaws as places
-use Rattle.laws.specs.PlaceLaws.{named}
 use Rattle.laws.specs.OutcomeLaws as outcomes
 use Rattle.laws.specs.RunLaws as runs
-use Rattle.laws.specs.RunLaws.{placesOf, SameLengths}
 use Rattle.laws.specs.LineLengths.{standard-fits}
 use Rattle.read.specs.Mirror.{readOf}
 use Rattle.read.specs.Laws as reader
@@ -176,8 +174,8 @@ pub related-accepted : (l : List ℕ) (x : Record) → Relates l x → Legal x �
 related-accepted l x q h = promises.related-accepted l x q h
 
 -- (and no line with the shape has a line feed)
-pub no-line-feed : (l : List ℕ) (t : LineTree) → Shaped l t → NoFeed l
-no-line-feed l t s = shapes.no-line-feed l t s
+pub no-line-feed : (l : List ℕ) (t : LineTree) → Shaped l t → Listed lineFeed l → ⊥
+no-line-feed l t s e = shapes.no-line-feed l t s e
 
 -- No line is related to two records,
 pub one-record : (l : List ℕ) (x y : Record) → Relates l x → Relates l y → x ≡ y

@@ -38,7 +38,7 @@ use Rattle.rules.specs.Grammar.{LineTree, GuardTree, unguarded, guarded, operan
 use Rattle.rules.specs.Reading.{GuardSpells, OneOf, as-standard, as-written, Spelled, Spells, Listed, guardRegisters, operandRegisters, operandsRegisters, registersOf}
 use Rattle.rules.specs.Reading.Listed.{here, later}
 use Rattle.rules.specs.Reading.Spelled.{none, more}
-use Rattle.rules.specs.Executing.{selectedWord, formD, formSources, combinationSources, comparisonSources, destinationPlaces, destinations, sources, guardSources}
+use Rattle.rules.specs.Executing.{selectedWord, formD, formSources, combinationSources, comparisonSources, destinationPlaces, destinations, sources, guardSources, named}
 
 -- ==== the operands of the standard line show the destinations, then the sources
 
@@ -173,10 +173,6 @@ instruction-inside (Set dtype d s) = rw (comparison-inside (s .combination) (s .
 instruction-inside (Setp d s) = every-append isInside (destinationPlaces d) (comparisonSources s) ∙ rw (destination-inside d, comparison-inside (s .combination) (s .a) (s .b))
 instruction-inside (Selp s c) = choice-inside s (p c)
 instruction-inside (Slct ctype s c) = choice-inside s (r c)
-
--- the registers that a record names, in the order of its line
-abbrev pub named : Record → List Place
-named x = guardSources (x .guard) ++ (destinations (x .instruction) ++ sources (x .instruction))
 
 -- `numbersInRange` looks at each of them
 pub all-inside : (x : Record) → every isInside (named x) ≡ numbersInRange x

@@ -9,7 +9,7 @@ use lib.Seq.{getD-set-same, getD-set-other}
 use lib.Dec.{eqb}
 use lib.IntN.{ℤ, pos, _+ℤ_}
 use borrow.Author.Tests.{eqb-true, ltb-true, not-true, eq-eqb}
-use Rattle.record.specs.Registers.{Files, Place, word, double, pred, r, p, operandPlace, at, Inside, numberOf, fileSize, wordCount, doubleCount, predCount}
+use Rattle.record.specs.Registers.{Files, Place, word, double, pred, r, p, operandPlace, at, Inside, SameLengths, wordCount, doubleCount, predCount}
 use Rattle.record.specs.Refusals.{isLegal, Legal, instructionApart, destinationApart}
 use Rattle.record.specs.declared.Cmp6.{Cmp6}
 use Rattle.record.specs.declared.LaneArith.{LaneArith}
@@ -38,7 +38,7 @@ use Rattle.rules.specs.Reading.{Listed}
 use Rattle.rules.specs.Reading.Listed.{here, later}
 use Rattle.rules.specs.Numbers.{wordSize, laneSize, lanes, partAt, lowOf, bit}
 use Rattle.rules.specs.Execution.{arithmeticOf, vsetOf, comparisonOf, setOf, selpOf, slctOf, lanesOf, arithmeticLanesOf, maskAt, laneHolds, count, laneResult, sumZ, boolOf}
-use Rattle.rules.specs.Executing.{operandOf, selectedWord, formC, formSources, conditionHolds, combinationSources, comparisonSources, scalarSources, kept, Write, write, writes, formD, destinationWrites, destinationPlaces, destinations, sources, guardSources, put, putAll, after, predHolds, combinedOf, testOf, Answer, Outcome, outcome, done, skipped, refused, run, guardHolds, sizesFit, predsFit, Admitted}
+use Rattle.rules.specs.Executing.{placesOf, named, operandOf, selectedWord, formC, formSources, conditionHolds, combinationSources, comparisonSources, scalarSources, kept, Write, write, writes, formD, destinationWrites, destinationPlaces, destinations, sources, guardSources, put, putAll, after, predHolds, combinedOf, testOf, Answer, Outcome, outcome, done, skipped, refused, run, guardHolds, sizesFit, predsFit, Admitted}
 use Rattle.laws.specs.PlaceLaws.{legal-parts, legal-inside}
 use Rattle.laws.specs.ExecutionLaws.{masked-gets-bit, unmasked-keeps-c, add-counts, masked-gets-low, unmasked-keeps-lane, add-sums}
 
@@ -85,10 +85,6 @@ module _ (x : Record) (f : Files) where
 
 -- ==== nothing else moves
 
-abbrev pub placesOf : List Write → List Place
-placesOf [] = []
-placesOf (w ∷ ws) = w .place ∷ placesOf ws
-
 destination-places : (d : Destination) (t u : Bool) → placesOf (destinationWrites d t u) ≡ destinationPlaces d
 destination-places (One a) t u = refl
 destination-places (Pair a b) t u = refl
@@ -134,10 +130,6 @@ others-stay x f q h =
     (put-all-other q (writes (x .instruction) f) f (λ e. h (subst (Listed q) (writes-destinations (x .instruction) f) e)))
 
 -- no file becomes longer or shorter
-pub record SameLengths (f g : Files) : Type 0 where
-  pub words : length (g .words) ≡ length (f .words)
-  pub doubles : length (g .doubles) ≡ length (f .doubles)
-  pub preds : length (g .preds) ≡ length (f .preds)
 
 same-lengths : (f : Files) → SameLengths f f
 same-lengths f = record { words = refl; doubles = refl; preds = refl }

@@ -11,13 +11,15 @@ use Rattle.signs.specs.Bytes.All.{none, more}
 use Rattle.record.specs.Registers.{Place, word, double, pred}
 use Rattle.rules.specs.Shape.{Name, digit, numberText, registerText, dotted, headText, Spot, at, nothing, spotText, OperandTree, inverted, pair, bare, part, operandText, guardText}
 use Rattle.rules.specs.Grammar.{GuardTree, unguarded, guarded, guardTreeText, Divided, dividedText, LineTree, lineText, GoodName, GoodNames, GoodOperand, GoodGuard, GoodOthers, Good, Shaped}
+use Rattle.rules.specs.Reading.{Listed}
+use Rattle.rules.specs.Reading.Listed.{here, later}
 use Rattle.rules.specs.Grammar.GoodNames.{none as no-name, more as name-more}
 use Rattle.rules.specs.Grammar.GoodOthers.{none as no-other, more as other-more}
 
-abbrev pub isNoFeed : ℕ → Bool
+abbrev isNoFeed : ℕ → Bool
 isNoFeed b = not (eqb b lineFeed)
 
-abbrev pub NoFeed : List ℕ → Type 0
+abbrev NoFeed : List ℕ → Type 0
 NoFeed l = All isNoFeed l
 
 all-append : {q : ℕ → Bool} {u v : List ℕ} → All q u → All q v → All q (u ++ v)
@@ -95,6 +97,13 @@ good-text t g =
     let list = all-append (all-append (all-append head (blanks (g .gap .all))) (operand (t .first) (g .first))) (others (g .others)) in
     all-append (all-append (all-append list (blanks (g .ending))) (sign 59 refl)) (blanks (g .behind))
 
+none-here : {l : List ℕ} → NoFeed l → Listed lineFeed l → ⊥
+none-here (more {b} e k) (here h) =
+    let z : isNoFeed lineFeed ≡ true = rw h e in
+    let y : _≡_ {A = ℕ} 0 1 = cc in
+    omega arith
+none-here (more e k) (later h) = none-here k h
+
 -- no line with the shape has a line feed
-pub no-line-feed : (l : List ℕ) (t : LineTree) → Shaped l t → NoFeed l
-no-line-feed l t s = subst NoFeed (s .text) (good-text t (s .good))
+pub no-line-feed : (l : List ℕ) (t : LineTree) → Shaped l t → Listed lineFeed l → ⊥
+no-line-feed l t s e = none-here (subst NoFeed (s .text) (good-text t (s .good))) e

@@ -1,9 +1,10 @@
 -- Document 01, "Registers": the three lent files and their places.
 use Prim.Native.Nat.{ℕ, _<_}
+use mathlib.Core.Path.{_≡_}
 use mathlib.Core.Bool.{Bool}
 use mathlib.Core.List.{List}
 use lib.Dec.{ltb}
-use lib.ListN.{getD}
+use lib.ListN.{getD, length}
 use Rattle.record.specs.declared.Word.{Word}
 use Rattle.record.specs.declared.Double.{Double}
 use Rattle.record.specs.declared.Pred.{Pred}
@@ -84,3 +85,9 @@ abbrev pub at : Files → Place → ℕ
 at f (word n) = getD (f .words) n 0
 at f (double n) = getD (f .doubles) n 0
 at f (pred n) = getD (f .preds) n 0
+
+-- the files g are as long as the files f
+pub record SameLengths (f g : Files) : Type 0 where
+  pub words : length (g .words) ≡ length (f .words)
+  pub doubles : length (g .doubles) ≡ length (f .doubles)
+  pub preds : length (g .preds) ≡ length (f .preds)

@@ -3,7 +3,7 @@
 use Prim.Native.Nat.{ℕ, _%_}
 use mathlib.Core.Path.{_≡_}
 use mathlib.Core.Bool.{Bool, true, false, not, _&&_, cond}
-use mathlib.Core.List.{List, [], _∷_}
+use mathlib.Core.List.{List, [], _∷_, _++_}
 use lib.ListN.{getD, set, length}
 use lib.Dec.{leb, eqb}
 use Rattle.record.specs.Registers.{Files, files, Place, word, double, pred, r, p, operandPlace, wordCount, doubleCount, predCount}
@@ -125,6 +125,10 @@ abbrev pub guardSources : Guard → List Place
 guardSources Always = []
 guardSources (When c) = p (c .pred) ∷ []
 
+-- the registers that a record names, in the order of its line
+abbrev pub named : Record → List Place
+named x = guardSources (x .guard) ++ (destinations (x .instruction) ++ sources (x .instruction))
+
 -- ==== what is written, in operand order
 
 pub record Write : Type 0 where
@@ -133,6 +137,10 @@ pub record Write : Type 0 where
 
 abbrev pub write : Place → ℕ → Write
 write q v = record { place = q; value = v }
+
+abbrev pub placesOf : List Write → List Place
+placesOf [] = []
+placesOf (w ∷ ws) = w .place ∷ placesOf ws
 
 -- as much as the place holds: all of it where the widths agree, as in every legal record
 abbrev pub kept : Operand → ℕ → ℕ

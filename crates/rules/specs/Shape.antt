@@ -4,6 +4,7 @@ use mathlib.Core.Bool.{Bool, true, false, cond}
 use mathlib.Core.List.{List, [], _∷_, _++_}
 use lib.Dec.{ltb}
 use Rattle.signs.specs.Text.{bytes}
+use Rattle.signs.specs.Digits.{zeroByte}
 use Rattle.record.specs.Registers.{Place, word, double, pred}
 
 -- Head: names joined by `.`; a name is one or more of a-z and 0-9
@@ -20,7 +21,7 @@ headText (n ∷ ns) = n ++ dotted ns
 
 -- a decimal number of 1 to 3 digits, no leading zero except 0 itself: the digits of a number below 1000
 abbrev pub digit : ℕ → ℕ
-digit n = n % 10 + 48
+digit n = n % 10 + zeroByte
 
 abbrev pub numberText : ℕ → List ℕ
 numberText n =
