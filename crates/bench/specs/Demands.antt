@@ -224,11 +224,16 @@ pub record ReadAsDemanded (l : List ℕ) (a : Answer) : Type 0 where
 -- a record is written into a buffer b, which holds c at exit
 pub record WrittenAsDemanded (x : Record) (b : List ℕ) (a : paper.Answer) (c : List ℕ) : Type 0 where
   pub refused-as-lent : (n : ℕ) → a ≡ paper.refused n → Listed n (8 ∷ 9 ∷ []) × (c ≡ b)
+  pub not-legal : isLegal x ≡ false → a ≡ paper.refused 8
+  pub no-room : Legal x → length b < length (standard x) → a ≡ paper.refused 9
   pub standard-line : Legal x → length (standard x) ≤ length b → (a ≡ written (length (standard x))) × (c ≡ standard x ++ drop (length (standard x)) b)
 
 -- a record is executed on files f, which are g at exit
 pub record ExecutedAsDemanded (x : Record) (f : Files) (a : executing.Answer) (g : Files) : Type 0 where
   pub refused-as-lent : (n : ℕ) → a ≡ executing.refused n → Listed n (8 ∷ 10 ∷ 11 ∷ []) × (g ≡ f)
+  pub not-legal : isLegal x ≡ false → a ≡ executing.refused 8
+  pub wrong-sizes : Legal x → sizesFit f ≡ false → a ≡ executing.refused 10
+  pub wrong-preds : Legal x → sizesFit f ≡ true → predsFit (f .preds) ≡ false → a ≡ executing.refused 11
   pub done-where-legal : Legal x → Admitted f → guardHolds (f .preds) (x .guard) ≡ true → a ≡ done
   pub destinations-hold : Legal x → Admitted f → guardHolds (f .preds) (x .guard) ≡ true → (w : Write) → Listed w (writes (x .instruction) f) → at g (w .place) ≡ w .value
   pub skipped-where-false : Legal x → Admitted f → guardHolds (f .preds) (x .guard) ≡ false → (a ≡ skipped) × (g ≡ f)
@@ -249,6 +254,8 @@ written-as-demanded x b a c h =
     let left : c ≡ writing x b .buffer = ap (λ (o : paper.Outcome). o .buffer) h in
     record {
       refused-as-lent = λ n e. let k = outcomes.write-refused x b n (sym said ∙ e) in (k .0, left ∙ k .1);
+      not-legal = λ e. said ∙ ap (λ (o : paper.Outcome). o .answer) (outcomes.write-8 x b e);
+      no-room = λ e short. said ∙ ap (λ (o : paper.Outcome). o .answer) (outcomes.write-9 x b e short);
       standard-line = λ e room. let k = outcomes.writes-standard x b e room in (said ∙ ap (λ (o : paper.Outcome). o .answer) k, left ∙ ap (λ (o : paper.Outcome). o .buffer) k);
     }
 
@@ -258,6 +265,9 @@ executed-as-demanded x f a g h =
     let left : g ≡ run x f .files = ap (λ (o : executing.Outcome). o .files) h in
     record {
       refused-as-lent = λ n e. let k = outcomes.execute-refused x f n (sym said ∙ e) in (k .0, left ∙ k .1);
+      not-legal = λ e. said ∙ ap (λ (o : executing.Outcome). o .answer) (outcomes.execute-8 x f e);
+      wrong-sizes = λ e s. said ∙ ap (λ (o : executing.Outcome). o .answer) (outcomes.execute-10 x f e s);
+      wrong-preds = λ e s b. said ∙ ap (λ (o : executing.Outcome). o .answer) (outcomes.execute-11 x f e s b);
       done-where-legal = λ e i t. said ∙ ap (λ (o : executing.Outcome). o .answer) (runs.executes x f e i t);
       destinations-hold = λ e i t w k. ap (λ (u : Files). at u (w .place)) left ∙ runs.holds-written x f e i t w k;
       skipped-where-false = λ e i t. let k = runs.skips x f e i t in (said ∙ ap (λ (o : executing.Outcome). o .answer) k, left ∙ ap (λ (o : executing.Outcome). o .files) k);

@@ -39,11 +39,11 @@ use Rattle.record.specs.declared.Instruction.the-variants.{Arithmetic, Vset, Vs
 use Rattle.record.specs.declared.Record.{Record}
 use Rattle.rules.specs.StandardLine.{standard}
 
-pub record Spelled : Type 0 where
+pub record Standing : Type 0 where
   pub meant : Record
   pub line : List ℕ
 
-abbrev is : Record → List ℕ → Spelled
+abbrev is : Record → List ℕ → Standing
 is m l = record { meant = m; line = l }
 
 abbrev always : Instruction → Record
@@ -102,7 +102,7 @@ highestWord = always (Arithmetic Vadd U32 false (record { atype = U32; btype = U
 
 -- ---- the lines
 
-unfoldable pub lines : List Spelled
+unfoldable pub lines : List Standing
 lines =
     -- document 01's example
     is exampleVset4 (bytes "vset4.u32.u32.lt %r10, %r1, %r2, %r0;")
@@ -207,6 +207,6 @@ lines =
     ∷ []
 
 -- each record's standard line is the text that stands beside it
-pub lines-hold : map (λ (s : Spelled). standard (s .meant)) lines ≡ map (λ (s : Spelled). s .line) lines
+pub lines-hold : map (λ (s : Standing). standard (s .meant)) lines ≡ map (λ (s : Standing). s .line) lines
 unfolding lines standard
 lines-hold = refl

@@ -99,7 +99,7 @@ good-text t g =
 
 none-here : {l : List ℕ} → NoFeed l → Listed lineFeed l → ⊥
 none-here (more {b} e k) (here h) =
-    let z : isNoFeed lineFeed ≡ true = rw h e in
+    let z : false ≡ true = subst (λ (k : ℕ). isNoFeed k ≡ true) (sym h) e in
     let y : _≡_ {A = ℕ} 0 1 = cc in
     omega arith
 none-here (more e k) (later h) = none-here k h

@@ -49,7 +49,7 @@ use Rattle.fills.specs.FillSound.{fill-sound}
 use Rattle.fills.specs.declared.Filled
 use Rattle.fills.specs.declared.Filled.{Filled}
 use Rattle.refusals.specs.Order.{firstReading}
-use Rattle.read.specs.Mirror.{guardGood, guardIn, instructionIn, fullIs, filledIn, recordOf, candidateBy, candidateOf, fitBy, numberOf, decided, decidedBy, readOf}
+use Rattle.read.specs.Mirror.{guardGood, guardIn, instructionIn, fullIs, filledIn, recordOf, candidateBy, candidateOf, fitBy, refusalOf, decided, decidedBy, readOf}
 
 -- ==== what stands between the rooms
 
@@ -386,9 +386,9 @@ ends-wrong true m = refl
 ends-wrong false m = refl
 
 -- a number, 0 for none
-pub ends-refused : (good : Bool) (m : Record) (n : ℕ) → n ≡ numberOf false true (fitBy good m) → (n ≡ 0 → ⊥) → refused n ≡ decidedBy false true (fitBy good m)
+pub ends-refused : (good : Bool) (m : Record) (n : ℕ) → n ≡ refusalOf false true (fitBy good m) → (n ≡ 0 → ⊥) → refused n ≡ decidedBy false true (fitBy good m)
 ends-refused good m zero e h = absurd (h refl)
 ends-refused good m (suc n) e h = rw (← e)
 
-pub ends-read : (good : Bool) (m : Record) (n : ℕ) → n ≡ numberOf false true (fitBy good m) → n ≡ 0 → read m ≡ decidedBy false true (fitBy good m)
+pub ends-read : (good : Bool) (m : Record) (n : ℕ) → n ≡ refusalOf false true (fitBy good m) → n ≡ 0 → read m ≡ decidedBy false true (fitBy good m)
 ends-read good m n e z = rw (← e, z)

@@ -111,8 +111,8 @@ candidateOf x = candidateBy (x .guard) (rowOf (x .head)) (filledOf (instructionI
 abbrev pub fitBy : Bool → Record → Candidate
 fitBy good m = record { spelled = m; opcode = true; row = true; fit = good && operandsFit m }
 
-abbrev pub numberOf : Bool → Bool → Candidate → ℕ
-numberOf tooLong good c =
+abbrev pub refusalOf : Bool → Bool → Candidate → ℕ
+refusalOf tooLong good c =
     firstReading tooLong (not good) (not (c .opcode)) (not (c .row)) (not (c .fit)) (not (numbersInRange (c .spelled))) (not (pairApart (c .spelled)))
 
 abbrev pub decided : ℕ → Record → Answer
@@ -120,7 +120,7 @@ decided zero m = read m
 decided (suc n) m = refused (suc n)
 
 abbrev pub decidedBy : Bool → Bool → Candidate → Answer
-decidedBy tooLong good c = decided (numberOf tooLong good c) (c .spelled)
+decidedBy tooLong good c = decided (refusalOf tooLong good c) (c .spelled)
 
 unfoldable pub readOf : List ℕ → Answer
 readOf l = decidedBy (ltb lineLimit (length l)) (shapeOf l .good) (candidateOf (shapeOf l .parts))

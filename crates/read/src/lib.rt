@@ -17,7 +17,7 @@ ghost use Rattle.rules.specs.Reading.{Answers};
 ghost use Rattle.fills.specs.Fills.{filledOf};
 ghost use Rattle.heads.specs.declared.Found.the-variants as found;
 ghost use Rattle.read.specs.Paper.{answerOf};
-ghost use Rattle.read.specs.Mirror.{predIs, predIn, guardGood, guardAt, guardIn, recordOf, candidateBy, candidateOf, fitBy, numberOf, decidedBy};
+ghost use Rattle.read.specs.Mirror.{predIs, predIn, guardGood, guardAt, guardIn, recordOf, candidateBy, candidateOf, fitBy, refusalOf, decidedBy};
 
 // The record, or document 01's number of the refusal.
 pub enum Reading {
@@ -90,7 +90,7 @@ fn record_of(guard: Guard, instruction: Instruction) -> Record
 
 // Refusals 5, 6 and 7, 0 for none.
 fn last_refusal(good: bool, r: Record) -> u8
-    ensures { λ n. ⌜ n ≡ numberOf false true (fitBy good r) ⌝ }
+    ensures { λ n. ⌜ n ≡ refusalOf false true (fitBy good r) ⌝ }
 {
     let fit = good & fits::operands_fit(r);
     let inside = legal::numbers_in_range(r);

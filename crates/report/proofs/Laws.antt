@@ -15,7 +15,7 @@ use Rattle.laws.specs.LineLengths.{standard-fits}
 use Rattle.rules.specs.Writing.{Answer, Outcome, written, refused, outcome, writing}
 use Rattle.text.specs.Buffer.{Buffer, buffer, Puts, _then_}
 use Rattle.signs.specs.Digits.{decimal}
-use Rattle.report.specs.Listing.{lineText}
+use Rattle.report.specs.Listing.{printedLine}
 use Rattle.signs.specs.Bytes.{lineFeed}
 use Rattle.report.specs.Chunks.{PutsAnswer, PutsTurn}
 
@@ -48,10 +48,10 @@ module _ (r : Record) (x y : List ℕ) (h : Legal r) (n : length x ≡ 160) wher
 -- a line's text is made of its number, a space, its answer and a line feed
 pub turn-put : {n : ℕ} {l : List ℕ} {f g : Files} {x y z w v : Buffer}
     → Puts x (decimal n) y → Puts y (bytes " ") z → PutsAnswer l f g z w → Puts w (lineFeed ∷ []) v → PutsTurn n l f g x v
-unfolding lineText
+unfolding printedLine
 turn-put {n} {l} {f} {g} a b p d =
     record {
-      text = lineText n (p .answer) f;
+      text = printedLine n (p .answer) f;
       turn = record { answer = p .answer; answers = p .answers; text = refl; files = p .files };
       puts = ((a then b) then p .puts) then d;
     }

@@ -23,9 +23,9 @@ use Rattle.laws.specs.OutcomeLaws.{execute-refused}
 use Rattle.read.specs.Promises.{refused-listed}
 use Rattle.text.specs.Buffer.{buffer, Puts, _then_, whole-front}
 use Rattle.text.specs.DigitLaws.{decimal-short}
-use Rattle.report.specs.Listing.{refusedText, executedText, answerText, lineText, Turn, listingLimit, tooLongText}
+use Rattle.report.specs.Listing.{refusedText, executedText, answerText, printedLine, Turn, listingLimit, tooLongText}
 use Rattle.signs.specs.Bytes.{lineFeed}
-use Rattle.report.specs.Chunks.{lineLength, lineAt, behind, nextPlace, nextNumber, lineRoom, PutsTurn, Some, ended, no-room, too-long, one-more, Prints}
+use Rattle.report.specs.Chunks.{lineLength, lineAt, behind, nextPlace, nextNumber, lineRoom, PutsTurn, SomeLines, ended, no-room, too-long, one-more, Prints}
 
 -- ==== where a line ends
 
@@ -77,7 +77,7 @@ answer-short (read r) f q = executed-short (run r f .answer) r f (legal-of q) re
 answer-short {l} (refused n) f q = let k = low-number readingOrder refl (refused-listed l n q) in omega arith
 
 pub turn-short : {n : ℕ} {l t : List ℕ} {f g : Files} → n < 2 ^ 64 → Turn n l f t g → length t ≤ lineRoom
-unfolding lineText
+unfolding printedLine
 turn-short {n} {l} {t} {f} {g} h u =
     rw (u .text) (simp length-append (omega (arith, decimal-short n h, answer-short (u .answer) f (u .answers))))
 
@@ -101,7 +101,7 @@ pub record Going (s : List ℕ) (from first : ℕ) (f : Files) (start : List ℕ
   pub text : List ℕ
   pub puts : Puts (buffer start 0) text (buffer out used)
   pub fits : length text ≤ length start
-  pub rest : {u : List ℕ} {e m : ℕ} {h : Files} → Some s (length start - length text) at n g u e m h → Some s (length start) from first f (text ++ u) e m h
+  pub rest : {u : List ℕ} {e m : ℕ} {h : Files} → SomeLines s (length start - length text) at n g u e m h → SomeLines s (length start) from first f (text ++ u) e m h
 
 pub begins : (s : List ℕ) (from first : ℕ) (f : Files) (out : List ℕ) → Going s from first f out from first 0 f out
 begins s from first f out = record { text = []; puts = record { text = refl }; fits = omega arith; rest = λ x. rw (sub-zero (length out)) at x }
@@ -134,7 +134,7 @@ module _ {s : List ℕ} {from first : ℕ} {f : Files} {start : List ℕ} {at n 
         buffer = whole-front (a .puts) (a .fits) .1;
       }
     where
-      none-more : (p q : Bool) → ltb at (length s) ≡ p → leb lineRoom (length start - used) ≡ q → p && q ≡ false → Some s (length start - length (a .text)) at n g [] at n g
+      none-more : (p q : Bool) → ltb at (length s) ≡ p → leb lineRoom (length start - used) ≡ q → p && q ≡ false → SomeLines s (length start - length (a .text)) at n g [] at n g
       none-more false q i j e = ended (ltb-false at (length s) i)
       none-more true false i j e = no-room {room = length start - length (a .text)} (ltb-true at (length s) i) (omega (arith, used-length, leb-false lineRoom (length start - used) j))
       none-more true true i j e = absurd (subst IsFalse (sym e) tt)

@@ -52,21 +52,21 @@ abbrev pub lineRoom : ℕ
 lineRoom = mostDigits + 9 + longestLine + 1
 
 -- from a place on, where line number n begins, on files f, with room for so many bytes: the text t, and where it stopped, with which number and files
-pub data Some (s : List ℕ) : ℕ → ℕ → ℕ → Files → List ℕ → ℕ → ℕ → Files → Type 0 where
-  ended : {room from n : ℕ} {f : Files} → length s ≤ from → Some s room from n f [] from n f
-  no-room : {room from n : ℕ} {f : Files} → from < length s → room < lineRoom → Some s room from n f [] from n f
-  too-long : {room from n : ℕ} {f : Files} → from < length s → lineRoom ≤ room → listingLimit < length s → Some s room from n f tooLongText (length s) n f
+pub data SomeLines (s : List ℕ) : ℕ → ℕ → ℕ → Files → List ℕ → ℕ → ℕ → Files → Type 0 where
+  ended : {room from n : ℕ} {f : Files} → length s ≤ from → SomeLines s room from n f [] from n f
+  no-room : {room from n : ℕ} {f : Files} → from < length s → room < lineRoom → SomeLines s room from n f [] from n f
+  too-long : {room from n : ℕ} {f : Files} → from < length s → lineRoom ≤ room → listingLimit < length s → SomeLines s room from n f tooLongText (length s) n f
   one-more : {room from n e m : ℕ} {f g h : Files} {t u : List ℕ} → from < length s → lineRoom ≤ room → length s ≤ listingLimit
-      → Turn n (lineAt s from) f t g → Some s (room - length t) (nextPlace s from) (nextNumber n) g u e m h → Some s room from n f (t ++ u) e m h
+      → Turn n (lineAt s from) f t g → SomeLines s (room - length t) (nextPlace s from) (nextNumber n) g u e m h → SomeLines s room from n f (t ++ u) e m h
 
 -- the text stands at the front of the lent buffer, whose length was room; behind it all is as it was
 pub record Prints (s : List ℕ) (from n : ℕ) (f : Files) (out : List ℕ) (e m len : ℕ) (g : Files) (after : List ℕ) : Type 0 where
   pub text : List ℕ
-  pub some : Some s (length out) from n f text e m g
+  pub some : SomeLines s (length out) from n f text e m g
   pub length-of : len ≡ length text
   pub buffer : after ≡ front text out
 
 -- calls of `some_lines`, each from where the one before it stopped, each with room for a line, until the listing ends
 pub data Calls (s : List ℕ) : ℕ → ℕ → Files → List ℕ → Files → Type 0 where
   none : {from n : ℕ} {f : Files} → length s ≤ from → Calls s from n f [] f
-  more : {room from n e m : ℕ} {f g h : Files} {t u : List ℕ} → from < length s → lineRoom ≤ room → Some s room from n f t e m g → Calls s e m g u h → Calls s from n f (t ++ u) h
+  more : {room from n e m : ℕ} {f g h : Files} {t u : List ℕ} → from < length s → lineRoom ≤ room → SomeLines s room from n f t e m g → Calls s e m g u h → Calls s from n f (t ++ u) h

@@ -59,14 +59,14 @@ filesAfter (read r) f = run r f .files
 filesAfter (refused n) f = f
 
 -- the line's number comes first, from 1 on
-unfoldable pub lineText : ℕ → Answer → Files → List ℕ
-lineText n a f = decimal n ++ bytes " " ++ answerText a f ++ (lineFeed ∷ [])
+unfoldable pub printedLine : ℕ → Answer → Files → List ℕ
+printedLine n a f = decimal n ++ bytes " " ++ answerText a f ++ (lineFeed ∷ [])
 
 -- line number n, which is l, on files f: the text t is printed, the files are g then
 pub record Turn (n : ℕ) (l : List ℕ) (f : Files) (t : List ℕ) (g : Files) : Type 0 where
   pub answer : Answer
   pub answers : Answers l answer
-  pub text : t ≡ lineText n answer f
+  pub text : t ≡ printedLine n answer f
   pub files : g ≡ filesAfter answer f
 
 -- the lines one after another, the first with number n

@@ -16,23 +16,23 @@ use Rattle.rules.specs.Writing.{front}
 use Rattle.read.specs.Mirror.{readOf}
 use Rattle.read.specs.Answering.{answers, answers-unique}
 use Rattle.report.specs.declared.Progress.{Progress}
-use Rattle.report.specs.Listing.{linesWith, linesOf, lineText, filesAfter, Turn, Turns, none, more, listingLimit, tooLongText, Output, too-long, printed}
+use Rattle.report.specs.Listing.{linesWith, linesOf, printedLine, filesAfter, Turn, Turns, none, more, listingLimit, tooLongText, Output, too-long, printed}
 use Rattle.signs.specs.Bytes.{lineFeed}
 use Rattle.changes.specs.Changes.{startFiles, changeText, changesText, registersText}
-use Rattle.report.specs.Chunks.{lineLength, lineAt, behind, nextPlace, nextNumber, lineRoom, Some, ended, no-room, one-more, Prints, Calls}
+use Rattle.report.specs.Chunks.{lineLength, lineAt, behind, nextPlace, nextNumber, lineRoom, SomeLines, ended, no-room, one-more, Prints, Calls}
 use Rattle.report.specs.Chunks as chunks
 use Rattle.report.specs.ChunkLaws.{further-on}
 
 -- ==== every listing has an output, and no listing has two
 
-turn-of : (n : ℕ) (l : List ℕ) (f : Files) → Turn n l f (lineText n (readOf l) f) (filesAfter (readOf l) f)
+turn-of : (n : ℕ) (l : List ℕ) (f : Files) → Turn n l f (printedLine n (readOf l) f) (filesAfter (readOf l) f)
 turn-of n l f = record { answer = readOf l; answers = answers l; text = refl; files = refl }
 
 -- what a line prints, and what it leaves in the files, is one thing
 pub turn-one : {n : ℕ} {l t u : List ℕ} {f g h : Files} → Turn n l f t g → Turn n l f u h → (t ≡ u) × (g ≡ h)
 turn-one {n} {l} {t} {u} {f} {g} {h} a b =
     let e : a .answer ≡ b .answer = answers-unique l (a .answer) (b .answer) (a .answers) (b .answers) in (
-      a .text ∙ ap (λ (x : Answer). lineText n x f) e ∙ sym (b .text),
+      a .text ∙ ap (λ (x : Answer). printedLine n x f) e ∙ sym (b .text),
       a .files ∙ ap (λ (x : Answer). filesAfter x f) e ∙ sym (b .files),
     )
 
@@ -45,7 +45,7 @@ all-turns : (n : ℕ) (ls : List (List ℕ)) (f : Files) → AllTurns n ls f
 all-turns n [] f = record { text = []; files = f; turns = none }
 all-turns n (l ∷ ls) f =
     let r = all-turns (suc n) ls (filesAfter (readOf l) f) in
-    record { text = lineText n (readOf l) f ++ r .text; files = r .files; turns = more (turn-of n l f) (r .turns) }
+    record { text = printedLine n (readOf l) f ++ r .text; files = r .files; turns = more (turn-of n l f) (r .turns) }
 
 pub turns-one : {n : ℕ} {ls : List (List ℕ)} {t u : List ℕ} {f g h : Files} → Turns n ls f t g → Turns n ls f u h → (t ≡ u) × (g ≡ h)
 turns-one none none = (refl, refl)
@@ -117,7 +117,7 @@ record Joined (s : List ℕ) (from n : ℕ) (f : Files) (t : List ℕ) (e m : �
   counted : Counted s e m
   join : {u : List ℕ} {h : Files} → Turns m (linesOf (drop e s)) g u h → Turns n (linesOf (drop from s)) f (t ++ u) h
 
-joined : {s t : List ℕ} {room from n e m : ℕ} {f g : Files} → length s ≤ listingLimit → Counted s from n → Some s room from n f t e m g → Joined s from n f t e m g
+joined : {s t : List ℕ} {room from n e m : ℕ} {f g : Files} → length s ≤ listingLimit → Counted s from n → SomeLines s room from n f t e m g → Joined s from n f t e m g
 joined l c (ended a) = record { counted = c; join = λ x. x }
 joined l c (no-room a b) = record { counted = c; join = λ x. x }
 joined l c (chunks.too-long a b d) = absurd (omega arith)
@@ -177,15 +177,15 @@ pub record Same (t u : List ℕ) (e d m k : ℕ) (g h : Files) : Type 0 where
 alike : {t : List ℕ} {e m : ℕ} {g : Files} → Same t t e e m m g g
 alike = record { text = refl; place = refl; number = refl; files = refl }
 
-pub some-one : {s t u : List ℕ} {room from n e d m k : ℕ} {f g h : Files} → Some s room from n f t e m g → Some s room from n f u d k h → Same t u e d m k g h
+pub some-one : {s t u : List ℕ} {room from n e d m k : ℕ} {f g h : Files} → SomeLines s room from n f t e m g → SomeLines s room from n f u d k h → Same t u e d m k g h
 some-one (ended a) (ended b) = alike
 some-one (no-room a b) (no-room c d) = alike
 some-one (chunks.too-long a b c) (chunks.too-long d e f) = alike
 some-one {s} (one-more {room = room} {from = from} {n = n} {g = g} {t = t} a b c p x) (one-more {e = e} {m = m} {g = g′} {h = h} {t = t′} {u = u} a′ b′ c′ q y) =
     let i = turn-one p q in
-    let z : Some s (room - length t) (nextPlace s from) (nextNumber n) g u e m h =
-    subst (λ (v : List ℕ). Some s (room - length v) (nextPlace s from) (nextNumber n) g u e m h) (sym (i .0))
-    (subst (λ (w : Files). Some s (room - length t′) (nextPlace s from) (nextNumber n) w u e m h) (sym (i .1)) y) in
+    let z : SomeLines s (room - length t) (nextPlace s from) (nextNumber n) g u e m h =
+    subst (λ (v : List ℕ). SomeLines s (room - length v) (nextPlace s from) (nextNumber n) g u e m h) (sym (i .0))
+    (subst (λ (w : Files). SomeLines s (room - length t′) (nextPlace s from) (nextNumber n) w u e m h) (sym (i .1)) y) in
     let r = some-one x z in
     record { text = ap₂ (λ (v w : List ℕ). v ++ w) (i .0) (r .text); place = r .place; number = r .number; files = r .files }
 some-one (ended a) (no-room b c) = absurd (omega arith)
@@ -225,7 +225,7 @@ prints-one {s} {out} x y p q =
 
 -- ==== what a caller's loop needs
 
-goes-forward : {s t : List ℕ} {room from n e m : ℕ} {f g : Files} → Some s room from n f t e m g → from ≤ e
+goes-forward : {s t : List ℕ} {room from n e m : ℕ} {f g : Files} → SomeLines s room from n f t e m g → from ≤ e
 goes-forward (ended a) = omega arith
 goes-forward (no-room a b) = omega arith
 goes-forward (chunks.too-long a b c) = omega arith
@@ -234,7 +234,7 @@ goes-forward {s} (one-more {from = from} a b c p x) =
     omega (arith, goes-forward x)
 
 -- a call with room for a line goes on
-pub call-goes-on : {s t : List ℕ} {room from n e m : ℕ} {f g : Files} → from < length s → lineRoom ≤ room → Some s room from n f t e m g → from < e
+pub call-goes-on : {s t : List ℕ} {room from n e m : ℕ} {f g : Files} → from < length s → lineRoom ≤ room → SomeLines s room from n f t e m g → from < e
 call-goes-on h r (ended a) = absurd (omega arith)
 call-goes-on h r (no-room a b) = absurd (omega arith)
 call-goes-on h r (chunks.too-long a b c) = omega arith

@@ -16,7 +16,7 @@ unfoldable pub decimalIn : ℕ → ℕ → List ℕ
 decimalIn zero n = []
 decimalIn (suc k) n = cond (ltb n 10) ((n + zeroByte) ∷ []) (decimalIn k (n / 10) ++ ((n % 10 + zeroByte) ∷ []))
 
--- n has fewer digits than n + 1, so no digit is lost
+-- n has at most n + 1 digits, so none is lost
 unfoldable pub decimal : ℕ → List ℕ
 decimal n = decimalIn (suc n) n
 

@@ -1,3 +1,11 @@
+use mathlib.Core.Path.{_≡_}
+use contract.Lifetimes.{Lfts}
+use borrow.Fn.Kinds.{Dens, endedOf}
+use denote.Triple.Clauses.{AtExit}
+use Rattle.base.specs.Promise.{one-outcome}
+use Rattle.fills.specs.declared.Filled.{Filled}
+use Rattle.fills.proofs.fill_in.Reads as reads
+use Rattle.fills.proofs.fill_in.Kinds as kinds
 use Rattle.fills.specs.Fills.{filledOf}
 use borrow.Author.Needs.{needs}
 use Rattle.fills.proofs.fill_in.Statement.{statement}
@@ -203,3 +211,9 @@ fill-in-spec =
     last-word-requires
     slct-from-requires
     returns-8)
+
+-- no two outcomes satisfy the contract as it stands in src/lib.rt
+pub fill-in-one-outcome :
+    (κs : Lfts 0) (a : Dens κs kinds.ps) (x y : Filled) (s t : AtExit (endedOf 0 kinds.ps kinds.r) κs)
+    → reads.Post κs a x s → reads.Post κs a y t → x ≡ y
+fill-in-one-outcome κs a x y s t p q = one-outcome p q
