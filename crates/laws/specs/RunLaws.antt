@@ -385,3 +385,10 @@ module _ (x : Record) (f : Files) (legal : Legal x) (admitted : Admitted f) (gua
     unfolding writes
     second-place =
         holds-written (write (p b) (bit (combinedOf (f .preds) (s .combination) (not (testOf (f .words) (f .doubles) s))))) (rw is (later (here refl)))
+
+    -- c is read before a predicate is written: where c is the first place, the second has BoolOp(not t, c) of c before
+    pub c-read-first : (op : BoolOp) (inverted : Bool) → s .combination ≡ With op (record { inverted = inverted; pred = a })
+        → at (run x f .files) (p b)
+        ≡ bit (boolOf op (not (testOf (f .words) (f .doubles) s)) (cond inverted (not (predHolds (f .preds) a)) (predHolds (f .preds) a)))
+    unfolding combinedOf
+    c-read-first op inverted e = second-place ∙ ap (λ (c : Combination). bit (combinedOf (f .preds) c (not (testOf (f .words) (f .doubles) s)))) e

@@ -92,6 +92,7 @@ abbrev pub GoodGuard : GuardTree → Type 0
 GoodGuard unguarded = Unit {0}
 GoodGuard (guarded negated p blanks) = GoodPlace p × Some isBlank blanks
 
+-- each of a list is good: of laws alone, for the operands without what divides them
 pub data GoodOperands : List OperandTree → Type 0 where
   none : GoodOperands []
   more : {o : OperandTree} {os : List OperandTree} → GoodOperand o → GoodOperands os → GoodOperands (o ∷ os)
