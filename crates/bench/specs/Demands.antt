@@ -83,10 +83,10 @@ execute-refused x f n e = outcomes.execute-refused x f n e
 
 -- (it is executed where its guard holds, and else skipped)
 pub executes : (x : Record) (f : Files) → Legal x → Admitted f → guardHolds (f .preds) (x .guard) ≡ true → run x f ≡ executing.outcome done (after (x .instruction) f)
-executes x f e a g = runs.executes x f e a g
+executes x f e a g = outcomes.executes x f e a g
 
 pub skips : (x : Record) (f : Files) → Legal x → Admitted f → guardHolds (f .preds) (x .guard) ≡ false → run x f ≡ executing.outcome skipped f
-skips x f e a g = runs.skips x f e a g
+skips x f e a g = outcomes.skips x f e a g
 
 module _ (x : Record) (f : Files) (legal : Legal x) (admitted : Admitted f) (guard : guardHolds (f .preds) (x .guard) ≡ true) where
   -- each destination holds its value afterwards: `writes` says it of each instruction, by the definitions of Execution.antt
@@ -151,7 +151,7 @@ pub lengths-stay : (x : Record) (f : Files) → SameLengths f (run x f .files)
 lengths-stay x f = runs.lengths-stay x f
 
 pub all-stays-unless-done : (x : Record) (f : Files) → (run x f .answer ≡ done → ⊥) → run x f .files ≡ f
-all-stays-unless-done x f h = runs.unless-done-unmoved x f h
+all-stays-unless-done x f h = outcomes.unless-done-unmoved x f h
 
 -- Every legal record is written as its one standard line, given a buffer with room for it, (and no byte behind it changes)
 pub writes-standard : (x : Record) (b : List ℕ) → Legal x → length (standard x) ≤ length b
@@ -268,9 +268,9 @@ executed-as-demanded x f a g h =
       not-legal = λ e. said ∙ ap (λ (o : executing.Outcome). o .answer) (outcomes.execute-8 x f e);
       wrong-sizes = λ e s. said ∙ ap (λ (o : executing.Outcome). o .answer) (outcomes.execute-10 x f e s);
       wrong-preds = λ e s b. said ∙ ap (λ (o : executing.Outcome). o .answer) (outcomes.execute-11 x f e s b);
-      done-where-legal = λ e i t. said ∙ ap (λ (o : executing.Outcome). o .answer) (runs.executes x f e i t);
+      done-where-legal = λ e i t. said ∙ ap (λ (o : executing.Outcome). o .answer) (outcomes.executes x f e i t);
       destinations-hold = λ e i t w k. ap (λ (u : Files). at u (w .place)) left ∙ runs.holds-written x f e i t w k;
-      skipped-where-false = λ e i t. let k = runs.skips x f e i t in (said ∙ ap (λ (o : executing.Outcome). o .answer) k, left ∙ ap (λ (o : executing.Outcome). o .files) k);
+      skipped-where-false = λ e i t. let k = outcomes.skips x f e i t in (said ∙ ap (λ (o : executing.Outcome). o .answer) k, left ∙ ap (λ (o : executing.Outcome). o .files) k);
       others-stay = λ q k. ap (λ (u : Files). at u q) left ∙ runs.others-stay x f q k;
       lengths-stay = rw left (runs.lengths-stay x f);
     }

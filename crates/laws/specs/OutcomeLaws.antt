@@ -15,7 +15,7 @@ use Rattle.rules.specs.Reading.{Listed}
 use Rattle.rules.specs.Reading.Listed.{here, later}
 use Rattle.rules.specs.Writing.{written, refused, Outcome, outcome, front, writing}
 use Rattle.rules.specs.Executing as executing
-use Rattle.rules.specs.Executing.{sizesFit, predsFit, guardHolds, after, done, skipped, run}
+use Rattle.rules.specs.Executing.{sizesFit, predsFit, Admitted, guardHolds, after, done, skipped, run}
 
 -- ==== writing
 
@@ -61,21 +61,42 @@ module _ (x : Record) (f : Files) where
   unfolding run
   execute-11 e s p = rw (e, s, p)
 
+  pub executes : Legal x → Admitted f → guardHolds (f .preds) (x .guard) ≡ true → run x f ≡ executing.outcome done (after (x .instruction) f)
+  unfolding run
+  executes e a g = rw (e, a .sizes, a .bits, g)
+
+  pub skips : Legal x → Admitted f → guardHolds (f .preds) (x .guard) ≡ false → run x f ≡ executing.outcome skipped f
+  unfolding run
+  skips e a g = rw (e, a .sizes, a .bits, g)
+
+  -- what holds of each of the five outcomes holds of the one that there is
+  pub run-cases : (P : executing.Outcome → Type 0)
+      → P (executing.outcome (executing.refused 8) f)
+      → P (executing.outcome (executing.refused 10) f)
+      → P (executing.outcome (executing.refused 11) f)
+      → P (executing.outcome done (after (x .instruction) f))
+      → P (executing.outcome skipped f)
+      → P (run x f)
+  unfolding run
+  run-cases P a b c d e = go (not (isLegal x)) (not (sizesFit f)) (not (predsFit (f .preds))) (guardHolds (f .preds) (x .guard))
+    where
+      go : (i s p g : Bool)
+          → P (cond i (executing.outcome (executing.refused 8) f) (cond s (executing.outcome (executing.refused 10) f) (cond p (executing.outcome (executing.refused 11) f) (cond g (executing.outcome done (after (x .instruction) f)) (executing.outcome skipped f)))))
+      go true s p g = a
+      go false true p g = b
+      go false false true g = c
+      go false false false true = d
+      go false false false false = e
+
   -- a refusal has number 8, 10 or 11, and the files are as they were lent
   pub execute-refused : (n : ℕ) → run x f .answer ≡ executing.refused n → Listed n (8 ∷ 10 ∷ 11 ∷ []) × (run x f .files ≡ f)
-  unfolding run
-  execute-refused n = go (not (isLegal x)) (not (sizesFit f)) (not (predsFit (f .preds))) (guardHolds (f .preds) (x .guard))
-    where
-      said : Bool → Bool → Bool → Bool → executing.Outcome
-      said i s p g =
-          cond i (executing.outcome (executing.refused 8) f)
-          (cond s (executing.outcome (executing.refused 10) f)
-          (cond p (executing.outcome (executing.refused 11) f)
-          (cond g (executing.outcome done (after (x .instruction) f)) (executing.outcome skipped f))))
+  execute-refused n =
+      run-cases (λ (o : executing.Outcome). o .answer ≡ executing.refused n → Listed n (8 ∷ 10 ∷ 11 ∷ []) × (o .files ≡ f))
+      (λ e. let h : n ≡ 8 = cc in (here h, refl)) (λ e. let h : n ≡ 10 = cc in (later (here h), refl))
+      (λ e. let h : n ≡ 11 = cc in (later (later (here h)), refl)) (λ e. let h : _≡_ {A = ℕ} 0 1 = cc in absurd (omega arith))
+      (λ e. let h : _≡_ {A = ℕ} 0 1 = cc in absurd (omega arith))
 
-      go : (i s p g : Bool) → said i s p g .answer ≡ executing.refused n → Listed n (8 ∷ 10 ∷ 11 ∷ []) × (said i s p g .files ≡ f)
-      go true s p g e = let h : n ≡ 8 = cc in (here h, refl)
-      go false true p g e = let h : n ≡ 10 = cc in (later (here h), refl)
-      go false false true g e = let h : n ≡ 11 = cc in (later (later (here h)), refl)
-      go false false false true e = let h : _≡_ {A = ℕ} 0 1 = cc in absurd (omega arith)
-      go false false false false e = let h : _≡_ {A = ℕ} 0 1 = cc in absurd (omega arith)
+  -- skipped and refused move nothing
+  pub unless-done-unmoved : (run x f .answer ≡ done → ⊥) → run x f .files ≡ f
+  unless-done-unmoved =
+      run-cases (λ (o : executing.Outcome). (o .answer ≡ done → ⊥) → o .files ≡ f) (λ h. refl) (λ h. refl) (λ h. refl) (λ h. absurd (h refl)) (λ h. refl)

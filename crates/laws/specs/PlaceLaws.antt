@@ -8,10 +8,10 @@ use mathlib.Core.List.{List, [], _∷_, _++_}
 use lib.Dec.{ltb, eqb}
 use borrow.Author.Tests.{ltb-true, ltb-false, eqb-true, eq-eqb, not-false}
 use Rattle.base.specs.Values.{every, every-append}
-use Rattle.record.specs.Registers.{Place, word, double, pred, r, p, operandPlace, Inside, numberOf, fileSize, wordCount}
+use Rattle.record.specs.Registers.{Place, word, double, pred, r, p, operandPlace, Inside, numberOf, fileSize}
 use Rattle.record.specs.Modifiers.{modifiersFit}
 use Rattle.record.specs.Operands.{operandsFit, fullMask, defaultA, defaultB}
-use Rattle.record.specs.Refusals.{isLegal, Legal, numbersInRange, instructionInRange, lanesInRange, choiceInRange, selectedInRange, formInRange, destinationInRange, combinationInRange, comparisonInRange, operandInRange, guardInRange, pairApart, instructionApart, destinationApart}
+use Rattle.record.specs.Refusals.{isLegal, Legal, numbersInRange, instructionInRange, lanesInRange, choiceInRange, selectedInRange, formInRange, destinationInRange, combinationInRange, operandInRange, guardInRange, pairApart, instructionApart, destinationApart}
 use Rattle.record.specs.declared.Guard.{Guard}
 use Rattle.record.specs.declared.Guard.the-variants.{Always, When}
 use Rattle.record.specs.declared.Selected.{Selected}
@@ -25,15 +25,14 @@ use Rattle.record.specs.declared.Operand.{Operand}
 use Rattle.record.specs.declared.Choice.{Choice}
 use Rattle.record.specs.declared.Combination.{Combination}
 use Rattle.record.specs.declared.Combination.the-variants.{Alone, With}
-use Rattle.record.specs.declared.Comparison.{Comparison}
 use Rattle.record.specs.declared.Destination.{Destination}
 use Rattle.record.specs.declared.Destination.the-variants.{One, Pair, First, Second}
 use Rattle.record.specs.declared.Instruction.{Instruction}
 use Rattle.record.specs.declared.Instruction.the-variants.{Arithmetic, Vset, VsetLanes, ArithmeticLanes, Set, Setp, Selp, Slct}
 use Rattle.record.specs.declared.Record.{Record}
-use Rattle.rules.specs.Shape.{Name, Spot, at, nothing, OperandTree, inverted, pair, bare, part}
+use Rattle.rules.specs.Shape.{Name, at, nothing, OperandTree, inverted, pair, bare, part}
 use Rattle.rules.specs.Names.{maskName, digitsName}
-use Rattle.rules.specs.Spelling.{sameMask, sameDigits, selectedTree, formTree, formLast, conditionTree, combinationLast, destinationTree, scalarTrees, lanesTrees, operandTrees, writtenLanes, writtenTrees}
+use Rattle.rules.specs.Spelling.{sameMask, sameDigits, selectedTree, formTree, formLast, combinationLast, destinationTree, scalarTrees, lanesTrees, operandTrees, writtenLanes, writtenTrees}
 use Rattle.rules.specs.Grammar.{LineTree, GuardTree, unguarded, guarded, operandsOf}
 use Rattle.rules.specs.Reading.{GuardSpells, OneOf, as-standard, as-written, Spelled, Spells, Listed, guardRegisters, operandRegisters, operandsRegisters, registersOf}
 use Rattle.rules.specs.Reading.Listed.{here, later}

@@ -7,10 +7,10 @@ use mathlib.Core.List.{List, [], _∷_, _++_}
 use lib.ListN.{getD, set, length, length-set}
 use lib.Seq.{getD-set-same, getD-set-other}
 use lib.Dec.{eqb}
-use lib.IntN.{ℤ, pos, _+ℤ_}
-use borrow.Author.Tests.{eqb-true, ltb-true, not-true, eq-eqb}
+use lib.IntN.{pos, _+ℤ_}
+use borrow.Author.Tests.{eqb-true, eq-eqb}
 use Rattle.record.specs.Registers.{Files, Place, word, double, pred, r, p, operandPlace, at, Inside, SameLengths, wordCount, doubleCount, predCount}
-use Rattle.record.specs.Refusals.{isLegal, Legal, instructionApart, destinationApart}
+use Rattle.record.specs.Refusals.{Legal, instructionApart, destinationApart}
 use Rattle.record.specs.declared.Cmp6.{Cmp6}
 use Rattle.record.specs.declared.LaneArith.{LaneArith}
 use Rattle.record.specs.declared.VideoType.{VideoType}
@@ -38,50 +38,14 @@ use Rattle.rules.specs.Reading.{Listed}
 use Rattle.rules.specs.Reading.Listed.{here, later}
 use Rattle.rules.specs.Numbers.{wordSize, laneSize, lanes, partAt, lowOf, bit}
 use Rattle.rules.specs.Execution.{arithmeticOf, vsetOf, comparisonOf, setOf, selpOf, slctOf, lanesOf, arithmeticLanesOf, maskAt, laneHolds, count, laneResult, sumZ, boolOf}
-use Rattle.rules.specs.Executing.{placesOf, named, operandOf, selectedWord, formC, formSources, conditionHolds, combinationSources, comparisonSources, scalarSources, kept, Write, write, writes, formD, destinationWrites, destinationPlaces, destinations, sources, guardSources, put, putAll, after, predHolds, combinedOf, testOf, Answer, Outcome, outcome, done, skipped, refused, run, guardHolds, sizesFit, predsFit, Admitted}
+use Rattle.rules.specs.Executing.{placesOf, operandOf, selectedWord, formC, formSources, conditionHolds, combinationSources, comparisonSources, scalarSources, kept, Write, write, writes, formD, destinationWrites, destinationPlaces, destinations, sources, guardSources, put, putAll, after, predHolds, combinedOf, testOf, Outcome, run, guardHolds, sizesFit, Admitted}
+use Rattle.laws.specs.OutcomeLaws.{executes, run-cases}
 use Rattle.laws.specs.PlaceLaws.{legal-parts, legal-inside}
 use Rattle.laws.specs.ExecutionLaws.{masked-gets-bit, unmasked-keeps-c, add-counts, masked-gets-low, unmasked-keeps-lane, add-sums}
 
--- ==== what `run` leaves is what was lent, or what stands after the instruction
-
-module _ (x : Record) (f : Files) where
-  -- what holds of both holds of what is left
-  left-by : (P : Files → Type 0) → P f → P (after (x .instruction) f) → P (run x f .files)
-  unfolding run
-  left-by P h k = go (not (isLegal x)) (not (sizesFit f)) (not (predsFit (f .preds))) (guardHolds (f .preds) (x .guard))
-    where
-      go : (a b c g : Bool)
-          → P (cond a (outcome (refused 8) f) (cond b (outcome (refused 10) f) (cond c (outcome (refused 11) f) (cond g (outcome done (after (x .instruction) f)) (outcome skipped f)))) .files)
-      go true b c g = h
-      go false true c g = h
-      go false false true g = h
-      go false false false true = k
-      go false false false false = h
-
-  pub executes : Legal x → Admitted f → guardHolds (f .preds) (x .guard) ≡ true → run x f ≡ outcome done (after (x .instruction) f)
-  unfolding run
-  executes e a g = rw (e, a .sizes, a .bits, g)
-
-  pub skips : Legal x → Admitted f → guardHolds (f .preds) (x .guard) ≡ false → run x f ≡ outcome skipped f
-  unfolding run
-  skips e a g = rw (e, a .sizes, a .bits, g)
-
-  -- skipped and refused move nothing
-  pub unless-done-unmoved : (run x f .answer ≡ done → ⊥) → run x f .files ≡ f
-  unfolding run
-  unless-done-unmoved = go (not (isLegal x)) (not (sizesFit f)) (not (predsFit (f .preds))) (guardHolds (f .preds) (x .guard))
-    where
-      said : Bool → Bool → Bool → Bool → Outcome
-      said a b c g =
-          cond a (outcome (refused 8) f)
-          (cond b (outcome (refused 10) f) (cond c (outcome (refused 11) f) (cond g (outcome done (after (x .instruction) f)) (outcome skipped f))))
-
-      go : (a b c g : Bool) → (said a b c g .answer ≡ done → ⊥) → said a b c g .files ≡ f
-      go true b c g h = refl
-      go false true c g h = refl
-      go false false true g h = refl
-      go false false false true h = absurd (h refl)
-      go false false false false h = refl
+-- what holds of the files lent, and of those after the instruction, holds of what is left
+left-by : (x : Record) (f : Files) (P : Files → Type 0) → P f → P (after (x .instruction) f) → P (run x f .files)
+left-by x f P h k = run-cases x f (λ (o : Outcome). P (o .files)) h h h k h
 
 -- ==== nothing else moves
 

@@ -1,15 +1,15 @@
 -- A line has no line feed: no line with the shape has byte 10. Assumes nothing.
-use Prim.Native.Nat.{ℕ, _+_, _/_, _%_}
+use Prim.Native.Nat.{ℕ, _/_}
 use native.Mathlib.Omega.{arith}
 use mathlib.Core.Path.{_≡_, refl, sym, subst, _∙_}
 use mathlib.Core.Bool.{Bool, true, false, not, cond}
 use mathlib.Core.List.{List, [], _∷_, _++_}
 use lib.Dec.{eqb, ltb}
 use borrow.Author.Tests.{eqb-true, ne-eqb}
-use Rattle.signs.specs.Bytes.{lineFeed, isBlank, isNameByte, All, Some}
+use Rattle.signs.specs.Bytes.{lineFeed, isBlank, All}
 use Rattle.signs.specs.Bytes.All.{none, more}
 use Rattle.record.specs.Registers.{Place, word, double, pred}
-use Rattle.rules.specs.Shape.{Name, digit, numberText, registerText, dotted, headText, Spot, at, nothing, spotText, OperandTree, inverted, pair, bare, part, operandText, guardText}
+use Rattle.rules.specs.Shape.{Name, digit, numberText, registerText, dotted, Spot, at, nothing, spotText, OperandTree, inverted, pair, bare, part, operandText}
 use Rattle.rules.specs.Grammar.{GuardTree, unguarded, guarded, guardTreeText, Divided, dividedText, LineTree, lineText, GoodName, GoodNames, GoodOperand, GoodGuard, GoodOthers, Good, Shaped}
 use Rattle.rules.specs.Reading.{Listed}
 use Rattle.rules.specs.Reading.Listed.{here, later}

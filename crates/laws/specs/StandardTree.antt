@@ -2,7 +2,7 @@
 use Prim.Native.Nat.{ℕ}
 use native.Mathlib.Omega.{arith}
 use mathlib.Core.Path.{_≡_, refl, ap}
-use mathlib.Core.Bool.{Bool, true, false, _&&_, cond, and-eq-true-iff, and-assoc, or-true, false≢true}
+use mathlib.Core.Bool.{Bool, true, false, cond, and-eq-true-iff, or-true, false≢true}
 use mathlib.Core.List.{List, [], _∷_, _++_, map, tail, append-nil, append-assoc}
 use lib.Dec.{lit<}
 use lib.ListN.{length}

@@ -4,14 +4,13 @@ use Prim.Native.Nat.{ℕ, _≤_, _<_}
 use native.Mathlib.Omega.{arith}
 use mathlib.Core.Path.{_≡_, refl, sym, ap, subst, _∙_}
 use mathlib.Core.Bool.{true, false}
-use mathlib.Core.List.{List, [], _∷_}
+use mathlib.Core.List.{List, _∷_}
 use lib.ListN.{length}
 use borrow.Author.Tests.{le-ltb}
 use Rattle.record.specs.Refusals.{numbersInRange, pairApart, Legal}
-use Rattle.record.specs.declared.Instruction.{Instruction}
 use Rattle.record.specs.declared.Record.{Record}
 use Rattle.rules.specs.Grammar.{LineTree, Shaped}
-use Rattle.rules.specs.Reading.{Spells, Relates, lineLimit, opcodes, Listed, Row, Applies, too-long, shapeless, unknown, rowless, unfit, outside, equal, readingOrder, FirstOf, this, next, Answer, read, refused, Answers, accepts, refuses}
+use Rattle.rules.specs.Reading.{Spells, Relates, lineLimit, Applies, too-long, shapeless, unknown, rowless, unfit, outside, equal, readingOrder, FirstOf, this, next, Answer, read, refused, Answers, accepts, refuses}
 use Rattle.laws.specs.PlaceLaws.{legal-parts, inside-spelled, outside-spelled, apart-spelled, equal-spelled}
 use Rattle.shape.specs.Line.{shapeOf}
 use Rattle.heads.specs.Sound.{row-listed}

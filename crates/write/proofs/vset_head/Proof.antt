@@ -1,7 +1,6 @@
 use Rattle.base.specs.PackLaws.{spells-written}
 use Rattle.signs.specs.Text.{bytes}
 use mathlib.Core.Path.{refl}
-use borrow.Author.Needs.{needs}
 use Rattle.write.proofs.vset_head.Statement.{statement}
 use Rattle.write.proofs.vset_head.Tie as tie
 
