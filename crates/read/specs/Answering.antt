@@ -62,7 +62,7 @@ module _ (l : List ℕ) where
   no-7 h t s m k e (equal u v n a) = apart-spelled u m (spelled-by-all l h t u s v m k) e n a
 
   -- the reader's refusal is the first that applies
-  first-of : (n : ℕ) → Refuses l n → FirstOf l n readingOrder
+  pub first-of : (n : ℕ) → Refuses l n → FirstOf l n readingOrder
   first-of n (over-160 h) = this (too-long h)
   first-of n (no-shape h k) = next (no-1 h) (this (shapeless k))
   first-of n (no-opcode h t s k) = next (no-1 h) (next (no-2 t s) (this (unknown t s k)))
@@ -132,6 +132,14 @@ answers-unique l (read m) (read k) (accepts x r h) (accepts y s i) = ap read (on
 answers-unique l (read m) (refused k) (accepts x r h) (refuses q) = absurd (accepted-none l m r h k (first-applies l k readingOrder q))
 answers-unique l (refused n) (read k) (refuses p) (accepts y s i) = absurd (accepted-none l k s i n (first-applies l n readingOrder p))
 answers-unique l (refused n) (refused k) (refuses p) (refuses q) = ap refused (first-one l n k readingOrder p q)
+
+-- the first that applies is the reader's refusal: both forms say the same
+pub of-first : (l : List ℕ) (n : ℕ) → FirstOf l n readingOrder → Refuses l n
+of-first l n f = go (readOf l) (decides l) (answers-unique l (readOf l) (refused n) (answers l) (refuses f))
+  where
+    go : (a : Answer) → Decides l a → a ≡ refused n → Refuses l n
+    go (read m) d e = let z : _≡_ {A = ℕ} 0 1 = cc in absurd (omega arith)
+    go (refused k) (decides-refused r) e = let h : k ≡ n = cc in subst (Refuses l) h r
 
 -- a line to which no refusal applies is accepted
 pub none-accepted : (l : List ℕ) → ((n : ℕ) → Applies l n → ⊥) → (m : Record) × Answers l (read m)
