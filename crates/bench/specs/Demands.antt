@@ -1,4 +1,4 @@
--- The user's three demands, in their words and order, as laws of the whole bench: document 01 with the requests that have landed (T-01, T-02).
+-- The user's three demands, in their words and order, as laws of the whole bench: document 01 with the requests that have landed (T-01, T-02, T-04).
 -- `read`, `write` and `execute` of src/lib.rt promise `Answers`, `writing` and `run` for every input; these laws say what that means, and
 -- proofs/Contracts.antt says the records at the end of this file of the functions' own contracts. What a definition says, its own file says
 -- after the documents (docs/RULES.md leads the way). Assumes nothing.
@@ -22,7 +22,8 @@ use Rattle.record.specs.declared.Instruction.the-variants.{VsetLanes, Arithmeti
 use Rattle.record.specs.declared.Record.{Record}
 use Rattle.rules.specs.Grammar.{LineTree, Shaped}
 use Rattle.rules.specs.StandardLine.{standard}
-use Rattle.rules.specs.Reading.{Relates, lineLimit, Listed, Applies, readingOrder, FirstOf, Answer, read, refused, Answers}
+use Rattle.rules.specs.Reading.{Relates, lineLimit, Applies, readingOrder, FirstOf, Answer, read, refused, Answers}
+use Rattle.signs.specs.Lists.{Listed}
 use Rattle.rules.specs.Writing as paper
 use Rattle.rules.specs.Writing.{written, writing}
 use Rattle.rules.specs.Numbers.{wordSize, laneSize, lanes, partAt, lowOf, bit}

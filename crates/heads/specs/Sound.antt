@@ -29,8 +29,9 @@ use Rattle.rules.specs.Shape.{Name}
 use Rattle.rules.specs.Names.{videoTypeName, setTypeName, typeName, sixName, cmpName, boolName, op2Name, braced, formOp2, combinationNames, headNames}
 use Rattle.rules.specs.Grammar.{GoodName, GoodNames}
 use Rattle.rules.specs.Grammar.GoodNames.{none, more}
-use Rattle.rules.specs.Reading.{opcodes, Listed}
-use Rattle.rules.specs.Reading.Listed.{here, later}
+use Rattle.rules.specs.Reading.{opcodes}
+use Rattle.signs.specs.Lists.{Listed}
+use Rattle.signs.specs.Lists.Listed.{here, later}
 use Rattle.tree.specs.Seen.{namesKept, seenHead}
 use Rattle.tree.specs.Blank.{noWord, noPred, noCondition, blankForm, blankCombination, blankChoice, blank}
 use Rattle.base.specs.PackLaws.{short-name, short-code, code-positive, code-known}

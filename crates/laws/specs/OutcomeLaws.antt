@@ -11,8 +11,8 @@ use Rattle.record.specs.Registers.{Files}
 use Rattle.record.specs.Refusals.{isLegal, Legal}
 use Rattle.record.specs.declared.Record.{Record}
 use Rattle.rules.specs.StandardLine.{standard}
-use Rattle.rules.specs.Reading.{Listed}
-use Rattle.rules.specs.Reading.Listed.{here, later}
+use Rattle.signs.specs.Lists.{Listed}
+use Rattle.signs.specs.Lists.Listed.{here, later}
 use Rattle.rules.specs.Writing.{written, refused, Outcome, outcome, front, writing}
 use Rattle.rules.specs.Executing as executing
 use Rattle.rules.specs.Executing.{sizesFit, predsFit, Admitted, guardHolds, after, done, skipped, run}

@@ -34,8 +34,9 @@ use Rattle.rules.specs.Shape.{Name, at, nothing, OperandTree, inverted, pair, b
 use Rattle.rules.specs.Names.{maskName, digitsName}
 use Rattle.rules.specs.Spelling.{sameMask, sameDigits, selectedTree, formTree, formLast, combinationLast, destinationTree, scalarTrees, lanesTrees, operandTrees, writtenLanes, writtenTrees}
 use Rattle.rules.specs.Grammar.{LineTree, GuardTree, unguarded, guarded, operandsOf}
-use Rattle.rules.specs.Reading.{GuardSpells, OneOf, as-standard, as-written, Spelled, Spells, Listed, guardRegisters, operandRegisters, operandsRegisters, registersOf}
-use Rattle.rules.specs.Reading.Listed.{here, later}
+use Rattle.rules.specs.Reading.{GuardSpells, OneOf, as-standard, as-written, Spelled, Spells, guardRegisters, operandRegisters, operandsRegisters, registersOf}
+use Rattle.signs.specs.Lists.{Listed}
+use Rattle.signs.specs.Lists.Listed.{here, later}
 use Rattle.rules.specs.Reading.Spelled.{none, more}
 use Rattle.rules.specs.Executing.{selectedWord, formD, formSources, combinationSources, comparisonSources, destinationPlaces, destinations, sources, guardSources, named}
 

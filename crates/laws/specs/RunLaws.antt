@@ -34,8 +34,8 @@ use Rattle.record.specs.declared.Destination.the-variants.{One, Pair, First, Se
 use Rattle.record.specs.declared.Instruction.{Instruction}
 use Rattle.record.specs.declared.Instruction.the-variants.{Arithmetic, Vset, VsetLanes, ArithmeticLanes, Set, Setp, Selp, Slct}
 use Rattle.record.specs.declared.Record.{Record}
-use Rattle.rules.specs.Reading.{Listed}
-use Rattle.rules.specs.Reading.Listed.{here, later}
+use Rattle.signs.specs.Lists.{Listed}
+use Rattle.signs.specs.Lists.Listed.{here, later}
 use Rattle.rules.specs.Numbers.{wordSize, laneSize, lanes, partAt, lowOf, bit}
 use Rattle.rules.specs.Execution.{arithmeticOf, vsetOf, comparisonOf, setOf, selpOf, slctOf, lanesOf, arithmeticLanesOf, maskAt, laneHolds, count, laneResult, sumZ, boolOf}
 use Rattle.rules.specs.Executing.{placesOf, operandOf, selectedWord, formC, formSources, conditionHolds, combinationSources, comparisonSources, scalarSources, kept, Write, write, writes, formD, destinationWrites, destinationPlaces, destinations, sources, guardSources, put, putAll, after, predHolds, combinedOf, testOf, Outcome, run, guardHolds, sizesFit, Admitted}

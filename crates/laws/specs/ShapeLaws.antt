@@ -11,8 +11,8 @@ use Rattle.signs.specs.Bytes.All.{none, more}
 use Rattle.record.specs.Registers.{Place, word, double, pred}
 use Rattle.rules.specs.Shape.{Name, digit, numberText, registerText, dotted, Spot, at, nothing, spotText, OperandTree, inverted, pair, bare, part, operandText}
 use Rattle.rules.specs.Grammar.{GuardTree, unguarded, guarded, guardTreeText, Divided, dividedText, LineTree, lineText, GoodName, GoodNames, GoodOperand, GoodGuard, GoodOthers, Good, Shaped}
-use Rattle.rules.specs.Reading.{Listed}
-use Rattle.rules.specs.Reading.Listed.{here, later}
+use Rattle.signs.specs.Lists.{Listed}
+use Rattle.signs.specs.Lists.Listed.{here, later}
 use Rattle.rules.specs.Grammar.GoodNames.{none as no-name, more as name-more}
 use Rattle.rules.specs.Grammar.GoodOthers.{none as no-other, more as other-more}
 

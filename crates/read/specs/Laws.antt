@@ -28,7 +28,8 @@ use Rattle.rules.specs.Grammar.GoodNames.{more as name-more}
 use Rattle.rules.specs.Grammar.GoodOthers.{none as no-other, more as other-more}
 use Rattle.rules.specs.Grammar.GoodOperands.{none as no-operand, more as operand-more}
 use Rattle.rules.specs.Grammar.{LineTree, GuardTree, unguarded, guarded, Divided, namesOf, operandsOf, GoodOthers, GoodOperands, Shaped}
-use Rattle.rules.specs.Reading.{GuardSpells, Spells, Relates, lineLimit, opcodes, Listed, Row, Fits, Answer, read, refused}
+use Rattle.rules.specs.Reading.{GuardSpells, Spells, Relates, lineLimit, opcodes, Row, Fits, Answer, read, refused}
+use Rattle.signs.specs.Lists.{Listed}
 use Rattle.read.specs.Refuses.{Refuses, over-160, no-shape, no-opcode, no-row, no-fit, out-of-file, same-pair, Decides, decides-read, decides-refused}
 use Rattle.tree.specs.Seen.{seen, seenGuard, seenHead, seenOperands}
 use Rattle.tree.specs.Blank.{blank, blankForm, blankCombination}

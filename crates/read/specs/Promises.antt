@@ -7,8 +7,9 @@ use Rattle.record.specs.Refusals.{Legal}
 use Rattle.record.specs.declared.Record.{Record}
 use Rattle.rules.specs.StandardLine.{standard}
 use Rattle.laws.specs.StandardTree.{standard-relates}
-use Rattle.rules.specs.Reading.{Relates, Listed, Applies, readingOrder, FirstOf, this, next, Answer, read, refused, Answers, accepts, refuses}
-use Rattle.rules.specs.Reading.Listed.{here, later}
+use Rattle.rules.specs.Reading.{Relates, Applies, readingOrder, FirstOf, this, next, Answer, read, refused, Answers, accepts, refuses}
+use Rattle.signs.specs.Lists.{Listed}
+use Rattle.signs.specs.Lists.Listed.{here, later}
 use Rattle.read.specs.Answering.{answers, answers-unique, accepted-none}
 use Rattle.read.specs.Mirror.{readOf}
 

@@ -9,7 +9,8 @@ use Rattle.record.specs.Refusals.{numbersInRange, pairApart, Legal}
 use Rattle.record.specs.declared.Instruction.{Instruction}
 use Rattle.record.specs.declared.Record.{Record}
 use Rattle.rules.specs.Grammar.{LineTree, Shaped}
-use Rattle.rules.specs.Reading.{lineLimit, opcodes, Listed, Row, Fits, Relates, Answer, read, refused}
+use Rattle.rules.specs.Reading.{lineLimit, opcodes, Row, Fits, Relates, Answer, read, refused}
+use Rattle.signs.specs.Lists.{Listed}
 
 pub data Refuses (l : List ℕ) : ℕ → Type 0 where
   over-160 : lineLimit < length l → Refuses l 1

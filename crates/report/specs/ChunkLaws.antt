@@ -16,7 +16,8 @@ use Rattle.record.specs.Registers.{Files}
 use Rattle.rules.specs.Executing.{run, done, skipped}
 use Rattle.rules.specs.Executing as executing
 use Rattle.laws.specs.LineLengths.{longestLine, standard-length}
-use Rattle.rules.specs.Reading.{Listed, readingOrder, Answer, Answers, accepts, read, refused}
+use Rattle.rules.specs.Reading.{readingOrder, Answer, Answers, accepts, read, refused}
+use Rattle.signs.specs.Lists.{Listed}
 use Rattle.base.specs.Values.{every}
 use Rattle.laws.specs.PlaceLaws.{of-every}
 use Rattle.laws.specs.OutcomeLaws.{execute-refused}

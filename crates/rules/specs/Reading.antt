@@ -5,6 +5,7 @@ use mathlib.Core.Bool.{Bool, true}
 use mathlib.Core.List.{List, [], _∷_, _++_}
 use lib.ListN.{length}
 use Rattle.signs.specs.Text.{bytes}
+use Rattle.signs.specs.Lists.{Listed}
 use Rattle.record.specs.Modifiers.{instructionModifiersFit, modifiersFit}
 use Rattle.record.specs.Operands.{lanesFit, operandsFit}
 use Rattle.record.specs.Registers.{Place, pred, p, numberOf, fileSize}
@@ -80,11 +81,6 @@ opcodes =
     ∷ bytes "vadd4" ∷ bytes "vsub4" ∷ bytes "vavrg4" ∷ bytes "vabsdiff4" ∷ bytes "vmin4" ∷ bytes "vmax4"
     ∷ bytes "set" ∷ bytes "setp" ∷ bytes "selp" ∷ bytes "slct"
     ∷ []
-
--- x stands in the list
-pub data Listed {A : Type 0} (x : A) : List A → Type 0 where
-  here : {y : A} {ys : List A} → x ≡ y → Listed x (y ∷ ys)
-  later : {y : A} {ys : List A} → Listed x ys → Listed x (y ∷ ys)
 
 -- the head is a row of the table: an instruction with fitting modifiers has these names
 pub record Row (t : LineTree) (i : Instruction) : Type 0 where
