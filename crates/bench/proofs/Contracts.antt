@@ -1,17 +1,24 @@
--- Demands 1 and 2 of the contracts of `read`, `write` and `execute` as they stand in src/lib.rt: whatever a call answers and leaves is as
+-- The demands of the contracts of `read`, `write` and `execute` as they stand in src/lib.rt: whatever a call answers and leaves is as
 -- demanded. If a contract were weaker, a law here would fail.
 use contract.Lifetimes.{Lfts}
 use borrow.Fn.Kinds.{Dens, endedOf}
 use denote.Triple.Clauses.{AtExit}
 use denote.Ref.{now}
+use Prim.Native.Nat.{ℕ, _≤_}
+use mathlib.Core.Path.{_≡_, subst}
+use mathlib.Core.List.{List}
+use lib.ListN.{length, take}
 use Rattle.record.specs.Registers.{files}
+use Rattle.record.specs.Refusals.{Legal}
+use Rattle.rules.specs.StandardLine.{standard}
+use Rattle.rules.specs.Reading.{read as record-read}
 use Rattle.read.specs.Paper as reading
 use Rattle.read.specs.declared.Reading.{Reading}
 use Rattle.write.specs.Answers as writing
 use Rattle.write.specs.declared.Written.{Written}
 use Rattle.execute.specs.Answers as executing
 use Rattle.execute.specs.declared.Executed.{Executed}
-use Rattle.bench.specs.Demands.{ReadAsDemanded, read-as-demanded, WrittenAsDemanded, written-as-demanded, ExecutedAsDemanded, executed-as-demanded}
+use Rattle.bench.specs.Demands.{ReadAsDemanded, read-as-demanded, WrittenAsDemanded, written-as-demanded, ExecutedAsDemanded, executed-as-demanded, written-then-read}
 use Rattle.bench.proofs.read.Reads as read
 use Rattle.bench.proofs.read.Kinds as read-kinds
 use Rattle.bench.proofs.write.Reads as write
@@ -42,3 +49,12 @@ pub execute-demanded : (κs : Lfts 3) (a : Dens κs execute-kinds.ps) (x : Execu
     → execute.Post κs a x s
     → ExecutedAsDemanded (a .0) (files (now (a .1 .0)) (now (a .1 .1 .0)) (now (a .1 .1 .1 .0))) (executing.answerOf x) (files (now (s .1 .0)) (now (s .1 .1 .0)) (now (s .1 .1 .1 .0)))
 execute-demanded κs a x s h = executed-as-demanded (a .0) _ (executing.answerOf x) _ h
+
+-- reading the line that was written gives the record again
+pub read-after-write : (κs : Lfts 1) (a : Dens κs write-kinds.ps) (x : Written) (s : AtExit (endedOf 1 write-kinds.ps write-kinds.r) κs)
+    → write.Post κs a x s → Legal (a .0) → length (standard (a .0)) ≤ length (now (a .1 .0))
+    → (ls : Lfts 1) (b : Dens ls read-kinds.ps) (y : Reading) (t : AtExit (endedOf 1 read-kinds.ps read-kinds.r) ls)
+    → now (b .0) ≡ take (length (standard (a .0))) (now (s .1 .0)) → read.Post ls b y t → reading.answerOf y ≡ record-read (a .0)
+read-after-write κs a x s h e room ls b y t l k =
+    written-then-read (a .0) (now (a .1 .0)) (now (s .1 .0)) (writing.answerOf x) (reading.answerOf y) e room (write-demanded κs a x s h)
+    (subst (λ (w : List ℕ). ReadAsDemanded w (reading.answerOf y)) l (read-demanded ls b y t k))

@@ -3,10 +3,11 @@
 -- proofs/Contracts.antt says the records at the end of this file of the functions' own contracts. What a definition says, its own file says
 -- after the documents (docs/RULES.md leads the way). Assumes nothing.
 use Prim.Native.Nat.{ℕ, _+_, _%_, _≤_, _<_}
-use mathlib.Core.Path.{_≡_, ap, sym, _∙_}
+use mathlib.Core.Path.{_≡_, refl, ap, sym, subst, _∙_}
 use mathlib.Core.Bool.{Bool, true, false, not, _&&_, cond}
 use mathlib.Core.List.{List, [], _∷_, _++_}
-use lib.ListN.{length, drop}
+use lib.ListN.{length, take, drop}
+use lib.Seq.{take-at}
 use lib.IntN.{pos, _+ℤ_}
 use Rattle.signs.specs.Bytes.{lineFeed}
 use Rattle.record.specs.Registers.{Files, Place, r, p, at, Inside, SameLengths}
@@ -17,7 +18,7 @@ use Rattle.record.specs.declared.VideoType.{VideoType}
 use Rattle.record.specs.declared.Lanes.{Lanes}
 use Rattle.record.specs.declared.Pred.{Pred}
 use Rattle.record.specs.declared.Comparison.{Comparison}
-use Rattle.record.specs.declared.Destination.the-variants.{Pair}
+use Rattle.record.specs.declared.Destination.the-variants.{One, Pair, First, Second}
 use Rattle.record.specs.declared.Instruction.the-variants.{VsetLanes, ArithmeticLanes, Setp}
 use Rattle.record.specs.declared.Record.{Record}
 use Rattle.rules.specs.Grammar.{LineTree, Shaped}
@@ -82,6 +83,10 @@ execute-refused x f n e = outcomes.execute-refused x f n e
 
 -- ==== 2. A legal record, on files that document 01 admits, does to the registers what the PTX steps condensed there say,
 
+-- (files that are neither 10 nor 11 are admitted)
+pub admits : (f : Files) → sizesFit f ≡ true → predsFit (f .preds) ≡ true → Admitted f
+admits f s b = outcomes.admits f s b
+
 -- (it is executed where its guard holds, and else skipped)
 pub executes : (x : Record) (f : Files) → Legal x → Admitted f → guardHolds (f .preds) (x .guard) ≡ true → run x f ≡ executing.outcome done (after (x .instruction) f)
 executes x f e a g = outcomes.executes x f e a g
@@ -134,6 +139,18 @@ module _ (x : Record) (f : Files) (legal : Legal x) (admitted : Admitted f) (gua
 
     pub second-place : at (run x f .files) (p b) ≡ bit (combinedOf (f .preds) (s .combination) (not (testOf (f .words) (f .doubles) s)))
     second-place = runs.second-place x f legal admitted guard a b s is
+
+  -- (one predicate gets what the first place of a pair gets; `_` drops one)
+  module _ (a : Pred) (s : Comparison) where
+    pub one-alone : x .instruction ≡ Setp (One a) s → at (run x f .files) (p a) ≡ bit (combinedOf (f .preds) (s .combination) (testOf (f .words) (f .doubles) s))
+    one-alone is = runs.one-holds x f legal admitted guard a s is
+
+    pub first-alone : x .instruction ≡ Setp (First a) s → at (run x f .files) (p a) ≡ bit (combinedOf (f .preds) (s .combination) (testOf (f .words) (f .doubles) s))
+    first-alone is = runs.first-holds x f legal admitted guard a s is
+
+    pub second-alone : x .instruction ≡ Setp (Second a) s
+        → at (run x f .files) (p a) ≡ bit (combinedOf (f .preds) (s .combination) (not (testOf (f .words) (f .doubles) s)))
+    second-alone is = runs.second-holds x f legal admitted guard a s is
 
 -- a legal record names only places in their files: its guard's, its destinations, its sources
 pub names-inside : (x : Record) → Legal x → (q : Place) → Listed q (named x) → Inside q
@@ -215,12 +232,14 @@ not-accepted-refused l h = promises.unrelated-refused l h
 pub refused-not-accepted : (l : List ℕ) (n : ℕ) (x : Record) → Answers l (refused n) → Relates l x → Legal x → ⊥
 refused-not-accepted l n x a q h = promises.refused-unrelated l n x a q h
 
--- ==== demands 1 and 2 of one call: what is asked for, the answer a, and what the lent memory holds at exit
+-- ==== the demands of one call: what is asked for, the answer a, and what the lent memory holds at exit
 
 -- a line is read
 pub record ReadAsDemanded (l : List ℕ) (a : Answer) : Type 0 where
   pub accepted : (x : Record) → a ≡ read x → Relates l x × Legal x
+  pub related : (x : Record) → Relates l x → Legal x → a ≡ read x
   pub refused-first : (n : ℕ) → a ≡ refused n → FirstOf l n readingOrder
+  pub first-refused : (n : ℕ) → FirstOf l n readingOrder → a ≡ refused n
 
 -- a record is written into a buffer b, which holds c at exit
 pub record WrittenAsDemanded (x : Record) (b : List ℕ) (a : paper.Answer) (c : List ℕ) : Type 0 where
@@ -246,7 +265,9 @@ pub read-as-demanded : (l : List ℕ) (a : Answer) → Answers l a → ReadAsDem
 read-as-demanded l a h =
     record {
       accepted = λ x e. promises.accepted-related l x (rw (← e) h);
+      related = λ x r e. answering.answers-unique l a (read x) h (promises.related-accepted l x r e);
       refused-first = λ n e. promises.refused-first l n (rw (← e) h);
+      first-refused = λ n f. answering.answers-unique l a (refused n) h (promises.first-refused l n f);
     }
 
 pub written-as-demanded : (x : Record) (b : List ℕ) (a : paper.Answer) (c : List ℕ) → paper.outcome a c ≡ writing x b → WrittenAsDemanded x b a c
@@ -275,3 +296,11 @@ executed-as-demanded x f a g h =
       others-stay = λ q k. ap (λ (u : Files). at u q) left ∙ runs.others-stay x f q k;
       lengths-stay = rw left (runs.lengths-stay x f);
     }
+
+-- what was written, read again, is the record
+pub written-then-read : (x : Record) (b c : List ℕ) (a : paper.Answer) (y : Answer) → Legal x → length (standard x) ≤ length b → WrittenAsDemanded x b a c
+    → ReadAsDemanded (take (length (standard x)) c) y → y ≡ read x
+written-then-read x b c a y e room w r =
+    let line : take (length (standard x)) c ≡ standard x = rw (w .standard-line e room .1) (take-at (standard x) _ _ refl) in
+    let back : Relates (standard x) x × Legal x = promises.accepted-related (standard x) x (promises.standard-reads x e) in
+    r .related x (subst (λ (l : List ℕ). Relates l x) (sym line) (back .0)) e

@@ -1,17 +1,19 @@
--- Document 01, "Bench figures": the starred ones; fourteen for request T-01, which gives none itself: they came with its issue; sixteen for T-02, which gives the first two:
--- twelve came with its issue, the last two are ours. One list with one claim. Each is a line with its record and its files, through `run`, and the whole outcome.
--- `%r0`, `%r1` and `%r2` hold a, b and c; d is `%r3`. Predicate 0 holds c of setp; its places are 1 and 2.
+-- Document 01, "Bench figures": the starred ones; then fourteen for T-01, which came with its issue, and sixteen for T-02, of which document 02
+-- has two; then those of document 01 without a star, and ten of ours. One list with one claim. Each is a line with its record and its
+-- files, through `run`, and the whole outcome. `%r0`, `%r1` and `%r2` hold a, b and c; d is `%r3`. Predicate 0 holds c of setp; its places
+-- are 1 and 2.
 use Prim.Native.Nat.{ℕ}
 use Prim.Native.String.{String}
 use mathlib.Core.Path.{_≡_, refl}
 use mathlib.Core.Bool.{Bool, true, false}
 use mathlib.Core.List.{List, [], _∷_, map}
 use lib.ListN.{replicate}
-use lib.Ieee.{lt, eq, ofBits, ofFields, odd}
+use lib.Ieee.{lt, eq, isNan, ofBits, ofFields, odd}
 use Rattle.signs.specs.Text.{bytes}
 use Rattle.record.specs.Refusals.{isLegal}
 use Rattle.record.specs.Operands.{fullMask, defaultA, defaultB}
 use Rattle.record.specs.declared.Word.{Word}
+use Rattle.record.specs.declared.Pred.{Pred}
 use Rattle.record.specs.declared.VideoType.{VideoType}
 use Rattle.record.specs.declared.VideoType.the-variants.{U32, S32}
 use Rattle.record.specs.declared.DataType
@@ -22,14 +24,17 @@ use Rattle.record.specs.declared.SlctType
 use Rattle.record.specs.declared.SlctType.{SlctType}
 use Rattle.record.specs.declared.Cmp6.{Cmp6}
 use Rattle.record.specs.declared.Cmp6.the-variants.{Eq, Lt, Ge}
-use Rattle.record.specs.declared.CmpOp.the-variants.{Six}
+use Rattle.record.specs.declared.CmpF.the-variants.{Ltu}
+use Rattle.record.specs.declared.CmpOp.{CmpOp}
+use Rattle.record.specs.declared.CmpOp.the-variants.{Six, Float}
 use Rattle.record.specs.declared.BoolOp.the-variants.{And}
-use Rattle.record.specs.declared.Guard.the-variants.{Always}
+use Rattle.record.specs.declared.Guard.the-variants.{Always, When}
+use Rattle.record.specs.declared.Combination.{Combination}
 use Rattle.record.specs.declared.Combination.the-variants.{Alone, With}
 use Rattle.record.specs.declared.Selector.the-variants.{B1}
 use Rattle.record.specs.declared.Selected.the-variants.{Whole}
 use Rattle.record.specs.declared.Form.{Form}
-use Rattle.record.specs.declared.Form.the-variants.{Plain, Merge}
+use Rattle.record.specs.declared.Form.the-variants.{Plain, Merge, Combine}
 use Rattle.record.specs.declared.LaneWidth.{LaneWidth}
 use Rattle.record.specs.declared.LaneWidth.the-variants.{Half, Byte}
 use Rattle.record.specs.declared.Mask.{Mask}
@@ -41,21 +46,24 @@ use Rattle.record.specs.declared.LaneArith.the-variants.{Scalar, Vavrg}
 use Rattle.record.specs.declared.Lanes.{Lanes}
 use Rattle.record.specs.declared.Operand
 use Rattle.record.specs.declared.Operand.{Operand}
-use Rattle.record.specs.declared.Destination.the-variants.{Pair}
+use Rattle.record.specs.declared.Op2.the-variants.{Add, Min, Max}
+use Rattle.record.specs.declared.Destination.{Destination}
+use Rattle.record.specs.declared.Destination.the-variants.{One, Pair, Second}
 use Rattle.record.specs.declared.Instruction.{Instruction}
-use Rattle.record.specs.declared.Instruction.the-variants.{Arithmetic, VsetLanes, ArithmeticLanes, Set, Setp, Slct}
+use Rattle.record.specs.declared.Instruction.the-variants.{Arithmetic, Vset, VsetLanes, ArithmeticLanes, Set, Setp, Selp, Slct}
 use Rattle.record.specs.declared.Record.{Record}
 use Rattle.rules.specs.Numbers.{exactOf, holdsZ}
-use Rattle.rules.specs.Execution.{selectedOf, formOf, arithmeticOf, laneHolds, lanesOf, laneResult, arithmeticLanesOf, valueOf, comparisonOf, notBelowZero}
+use Rattle.rules.specs.Execution.{selectedOf, formOf, arithmeticOf, vsetOf, laneHolds, lanesOf, laneResult, arithmeticLanesOf, valueOf, comparisonOf, notBelowZero}
 use Rattle.record.specs.Registers.{Files, files}
 use Rattle.rules.specs.StandardLine.{standard}
-use Rattle.rules.specs.Executing.{Outcome, done, outcome, combinedOf, testOf, writes, after, sizesFit, predsFit, guardHolds, run}
+use Rattle.rules.specs.Executing.{Answer, done, skipped, refused, Outcome, outcome, combinedOf, testOf, writes, after, sizesFit, predsFit, guardHolds, run}
 
--- a line, the record that it spells, the files before it and those that it leaves
+-- a line, the record that it spells, the files before it, the answer, and the files that it leaves
 pub record Figure : Type 0 where
   pub line : String
   pub spelled : Record
   pub before : Files
+  pub answer : Answer
   pub left : Files
 
 -- ---- the records that the figures' lines spell
@@ -66,6 +74,9 @@ always i = record { guard = Always; instruction = i }
 abbrev r : ℕ → Word
 r n = record { 0 = n }
 
+abbrev p : ℕ → Pred
+p n = record { 0 = n }
+
 -- 64 words, 32 double-words, 16 predicates, all 0 but the first few
 abbrev lent : List ℕ → List ℕ → Files
 lent words preds = files words (replicate 32 0) preds
@@ -74,7 +85,7 @@ abbrev four : ℕ → ℕ → ℕ → ℕ → List ℕ
 four a b c d = a ∷ b ∷ c ∷ d ∷ replicate 60 0
 
 abbrev three : ℕ → ℕ → ℕ → List ℕ
-three p q s = p ∷ q ∷ s ∷ replicate 13 0
+three a b c = a ∷ b ∷ c ∷ replicate 13 0
 
 -- %r3, %r0, %r1, %r2 with a mask and a's selector; b's selector is its default
 abbrev lanes : LaneWidth → VideoType → VideoType → Bool → Mask → Digits → Lanes
@@ -95,12 +106,31 @@ abbrev scalarRecord : Arith → VideoType → Bool → VideoType → VideoType �
 scalarRecord op dtype sat atype btype form =
     always (Arithmetic op dtype sat (record { atype = atype; btype = btype; form = form; a = Whole (r 0); b = Whole (r 1) }))
 
--- dtype and stype f32
-abbrev setRecord : Cmp6 → Record
-setRecord cmp =
+-- vset of u32
+abbrev vsetWordRecord : Cmp6 → Form → Record
+vsetWordRecord cmp form = always (Vset cmp (record { atype = U32; btype = U32; form = form; a = Whole (r 0); b = Whole (r 1) }))
+
+-- stype f32, without BoolOp
+abbrev setRecord : CmpOp → Bool → SetType → Record
+setRecord cmp ftz dtype =
     always
-    (Set SetType.F32 (r 3)
-    (record { cmp = Six cmp; combination = Alone; ftz = false; stype = DataType.F32; a = Operand.Word (r 0); b = Operand.Word (r 1) }))
+    (Set dtype (r 3)
+    (record { cmp = cmp; combination = Alone; ftz = ftz; stype = DataType.F32; a = Operand.Word (r 0); b = Operand.Word (r 1) }))
+
+-- setp.lt of s32
+abbrev setpRecord : Destination → Combination → Record
+setpRecord d c =
+    always
+    (Setp d (record { cmp = Six Lt; combination = c; ftz = false; stype = DataType.S32; a = Operand.Word (r 0); b = Operand.Word (r 1) }))
+
+-- selp.b64 by predicate 1, under a guard by predicate 0
+abbrev selpRecord : Bool → Record
+selpRecord inverted = record {
+  guard = When (record { inverted = inverted; pred = p 0 });
+  instruction = Selp
+      (record { dtype = DataType.B64; d = Operand.Double (record { 0 = 3 }); a = Operand.Double (record { 0 = 0 }); b = Operand.Double (record { 0 = 1 }) })
+      (p 1);
+}
 
 -- slct.f32.f32 or slct.ftz.f32.f32
 abbrev slctRecord : Bool → Record
@@ -121,10 +151,27 @@ b20 = record { lane0 = true; lane1 = false; lane2 = true; lane3 = false }
 
 -- ---- a line's figure
 
+-- what d holds before, which is no figure's result
+abbrev other : ℕ
+other = 0x55555555
+
 -- d of a line whose words are a, b, c before
 abbrev gives : String → Record → ℕ → ℕ → ℕ → ℕ → Figure
 gives line spelled a b c d =
-    record { line = line; spelled = spelled; before = lent (four a b c 0) (three 0 0 0); left = lent (four a b c d) (three 0 0 0) }
+    record { line = line; spelled = spelled; before = lent (four a b c other) (three 0 0 0); answer = done; left = lent (four a b c d) (three 0 0 0) }
+
+-- the predicates of a line whose words are a and b before
+abbrev leaves : String → Record → ℕ → ℕ → List ℕ → List ℕ → Figure
+leaves line spelled a b before left =
+    record { line = line; spelled = spelled; before = lent (four a b 0 0) before; answer = done; left = lent (four a b 0 0) left }
+
+-- the answer of a line that changes nothing
+abbrev answers : String → Record → Files → Answer → Figure
+answers line spelled f a = record { line = line; spelled = spelled; before = f; answer = a; left = f }
+
+-- double-words 0, 1 and 3
+abbrev doubled : ℕ → ℕ → ℕ → List ℕ → Files
+doubled a b d preds = files (replicate 64 0) (a ∷ b ∷ 0 ∷ d ∷ replicate 28 0) preds
 
 -- slct by c. a and b are subnormal themselves, so that a flushed copy would show
 abbrev picksA : String → Record → ℕ → Figure
@@ -153,23 +200,10 @@ figures =
     -- vabsdiff.u32.s32.u32, 80000000 and FFFFFFFF: 7FFFFFFF
     ∷ gives "vabsdiff.u32.s32.u32 %r3, %r0, %r1;" (scalarRecord Vabsdiff U32 false S32 U32 (Plain (r 3))) 0x80000000 0xFFFFFFFF 0 0x7FFFFFFF
     -- set.eq.f32.f32, 80000000 and 0: 3F800000
-    ∷ gives "set.eq.f32.f32 %r3, %r0, %r1;" (setRecord Eq) 0x80000000 0 0 0x3F800000
+    ∷ gives "set.eq.f32.f32 %r3, %r0, %r1;" (setRecord (Six Eq) false SetType.F32) 0x80000000 0 0 0x3F800000
     -- setp.lt.and.s32, -1 and 0, c 0: both places 0
-    ∷ record {
-      line = "setp.lt.and.s32 %p1|%p2, %r0, %r1, %p0;";
-      spelled = always
-          (Setp (Pair (record { 0 = 1 }) (record { 0 = 2 }))
-          (record {
-            cmp = Six Lt;
-            combination = With And (record { inverted = false; pred = record { 0 = 0 } });
-            ftz = false;
-            stype = DataType.S32;
-            a = Operand.Word (r 0);
-            b = Operand.Word (r 1);
-          }));
-      before = lent (four 0xFFFFFFFF 0 0 0) (three 0 1 1);
-      left = lent (four 0xFFFFFFFF 0 0 0) (three 0 0 0);
-    }
+    ∷ leaves "setp.lt.and.s32 %p1|%p2, %r0, %r1, %p0;" (setpRecord (Pair (p 1) (p 2)) (With And (record { inverted = false; pred = p 0 }))) 0xFFFFFFFF 0
+    (three 0 1 1) (three 0 0 0)
     -- for T-01. vavrg4 all u32, 00FF0102, 01FF0203: 01FF0203; all s32, FFFD8001, 00FE8002: FFFD8002. vavrg2 all s32, FFFF8000, 00008001: FFFF8000
     ∷ gives "vavrg4.u32.u32.u32 %r3, %r0, %r1, %r2;" (allOf Vavrg Byte U32 false false) 0x00FF0102 0x01FF0203 0 0x01FF0203
     ∷ gives "vavrg4.s32.s32.s32 %r3, %r0, %r1, %r2;" (allOf Vavrg Byte S32 false false) 0xFFFD8001 0x00FE8002 0 0xFFFD8002
@@ -209,16 +243,46 @@ figures =
     ∷ picksB "slct.f32.f32 %r3, %r0, %r1, %r2;" (slctRecord false) 0xFF800000
     ∷ picksA "slct.ftz.f32.f32 %r3, %r0, %r1, %r2;" (slctRecord true) 0x00000001
     ∷ picksA "slct.f32.f32 %r3, %r0, %r1, %r2;" (slctRecord false) 0x00000001
+    -- without a star. vsub all u32, 1 and 2: FFFFFFFF; sat 0. vabsdiff.u32.s32.u32, 80000000 and FFFFFFFF, sat: FFFFFFFF
+    ∷ gives "vsub.u32.u32.u32 %r3, %r0, %r1;" (scalarRecord Vsub U32 false U32 U32 (Plain (r 3))) 1 2 0 0xFFFFFFFF
+    ∷ gives "vsub.u32.u32.u32.sat %r3, %r0, %r1;" (scalarRecord Vsub U32 true U32 U32 (Plain (r 3))) 1 2 0 0
+    ∷ gives "vabsdiff.u32.s32.u32.sat %r3, %r0, %r1;" (scalarRecord Vabsdiff U32 true S32 U32 (Plain (r 3))) 0x80000000 0xFFFFFFFF 0 0xFFFFFFFF
+    -- set.ltu.u32.f32, 7FC00000 and 0: FFFFFFFF; `lt`: 0. set.eq.u32.f32, 00000001 and 80000000: 0; with ftz FFFFFFFF
+    ∷ gives "set.ltu.u32.f32 %r3, %r0, %r1;" (setRecord (Float Ltu) false SetType.U32) 0x7FC00000 0 0 0xFFFFFFFF
+    ∷ gives "set.lt.u32.f32 %r3, %r0, %r1;" (setRecord (Six Lt) false SetType.U32) 0x7FC00000 0 0 0
+    ∷ gives "set.eq.u32.f32 %r3, %r0, %r1;" (setRecord (Six Eq) false SetType.U32) 0x00000001 0x80000000 0 0
+    ∷ gives "set.eq.ftz.u32.f32 %r3, %r0, %r1;" (setRecord (Six Eq) true SetType.U32) 0x00000001 0x80000000 0 0xFFFFFFFF
+    -- ours. OP2 on the exact number, and no second clamp; c of vset is unsigned
+    ∷ gives "vadd.s32.s32.s32.sat.add %r3, %r0, %r1, %r2;" (scalarRecord Vadd S32 true S32 S32 (Combine Add (r 3) (r 2))) 0x7FFFFFFF 1 1 0x80000000
+    ∷ gives "vsub.u32.u32.u32.min %r3, %r0, %r1, %r2;" (scalarRecord Vsub U32 false U32 U32 (Combine Min (r 3) (r 2))) 1 2 0 0xFFFFFFFF
+    ∷ gives "vsub.u32.u32.u32.max %r3, %r0, %r1, %r2;" (scalarRecord Vsub U32 false U32 U32 (Combine Max (r 3) (r 2))) 1 2 0 0
+    ∷ gives "vset.u32.u32.lt.min %r3, %r0, %r1, %r2;" (vsetWordRecord Lt (Combine Min (r 3) (r 2))) 1 2 0xFFFFFFFF 1
+    -- one place of setp: t, or not t
+    ∷ leaves "setp.lt.s32 %p1, %r0, %r1;" (setpRecord (One (p 1)) Alone) 0xFFFFFFFF 0 (three 0 0 0) (three 0 1 0)
+    ∷ leaves "setp.lt.s32 _|%p2, %r0, %r1;" (setpRecord (Second (p 2)) Alone) 0 0xFFFFFFFF (three 0 0 0) (three 0 0 1)
+    -- a guard that holds, by `!`, and one that does not; a copy of 64 bits
+    ∷ record {
+      line = "@!%p0 selp.b64 %rd3, %rd0, %rd1, %p1;";
+      spelled = selpRecord true;
+      before = doubled 0x123456789ABCDEF0 1 other (three 0 1 0);
+      answer = done;
+      left = doubled 0x123456789ABCDEF0 1 0x123456789ABCDEF0 (three 0 1 0);
+    }
+    ∷ answers "@%p0 selp.b64 %rd3, %rd0, %rd1, %p1;" (selpRecord false) (doubled 0x123456789ABCDEF0 1 other (three 0 1 0)) skipped
+    -- some predicate byte over 1; file lengths not 64, 32, 16
+    ∷ answers "vadd.s32.s32.s32 %r3, %r0, %r1;" (scalarRecord Vadd S32 false S32 S32 (Plain (r 3))) (lent (four 1 1 0 other) (three 0 0 2)) (refused 11)
+    ∷ answers "vadd.s32.s32.s32 %r3, %r0, %r1;" (scalarRecord Vadd S32 false S32 S32 (Plain (r 3)))
+    (files (1 ∷ four 1 1 0 other) (replicate 32 0) (three 0 0 2)) (refused 10)
     ∷ []
 
--- what a figure says: its line, and that it is done and leaves the files beside it
+-- what a figure says: its line, its answer, and the files that it leaves
 abbrev pub said : Figure → List ℕ × Outcome
-said g = (bytes (g .line), outcome done (g .left))
+said g = (bytes (g .line), outcome (g .answer) (g .left))
 
 -- what the definitions give: the standard line of its record, and how that record's run on its files ends
 abbrev pub given : Figure → List ℕ × Outcome
 given g = (standard (g .spelled), run (g .spelled) (g .before))
 
 pub figures-hold : map given figures ≡ map said figures
-unfolding figures standard run isLegal sizesFit predsFit guardHolds after writes arithmeticOf formOf selectedOf exactOf lanesOf laneHolds holdsZ laneResult arithmeticLanesOf combinedOf testOf comparisonOf valueOf notBelowZero lt eq ofBits ofFields odd
+unfolding figures standard run isLegal sizesFit predsFit guardHolds after writes arithmeticOf vsetOf formOf selectedOf exactOf lanesOf laneHolds holdsZ laneResult arithmeticLanesOf combinedOf testOf comparisonOf valueOf notBelowZero lt eq isNan ofBits ofFields odd
 figures-hold = refl

@@ -48,6 +48,10 @@ module _ (x : Record) (b : List ℕ) where
 
 -- ==== executing
 
+-- files that pass 10 and 11 are admitted
+pub admits : (f : Files) → sizesFit f ≡ true → predsFit (f .preds) ≡ true → Admitted f
+admits f s b = record { sizes = s; bits = b }
+
 module _ (x : Record) (f : Files) where
   pub execute-8 : isLegal x ≡ false → run x f ≡ executing.outcome (executing.refused 8) f
   unfolding run

@@ -336,6 +336,25 @@ module _ (x : Record) (f : Files) (legal : Legal x) (admitted : Admitted f) (gua
         ≡ lowOf wordSize (pos (c-of l) +ℤ sumZ (lanes (l .width)) (λ i. cond (maskAt (l .mask) i) (laneResult op dtype sat l (a-of l) (b-of l) i) (pos 0)))
     add-summed e = rw lanes-hold (add-sums op dtype sat l (a-of l) (b-of l) (c-of l) e)
 
+  -- ---- setp, from the predicates before it: one place, or one of a pair that drops the other
+
+  module _ (a : Pred) (s : Comparison) where
+    -- BoolOp(t, c) alone
+    pub one-holds : x .instruction ≡ Setp (One a) s → at (run x f .files) (p a) ≡ bit (combinedOf (f .preds) (s .combination) (testOf (f .words) (f .doubles) s))
+    unfolding writes
+    one-holds is = holds-written (write (p a) (bit (combinedOf (f .preds) (s .combination) (testOf (f .words) (f .doubles) s)))) (rw is (here refl))
+
+    pub first-holds : x .instruction ≡ Setp (First a) s → at (run x f .files) (p a) ≡ bit (combinedOf (f .preds) (s .combination) (testOf (f .words) (f .doubles) s))
+    unfolding writes
+    first-holds is = holds-written (write (p a) (bit (combinedOf (f .preds) (s .combination) (testOf (f .words) (f .doubles) s)))) (rw is (here refl))
+
+    -- BoolOp(not t, c) alone
+    pub second-holds : x .instruction ≡ Setp (Second a) s
+        → at (run x f .files) (p a) ≡ bit (combinedOf (f .preds) (s .combination) (not (testOf (f .words) (f .doubles) s)))
+    unfolding writes
+    second-holds is =
+        holds-written (write (p a) (bit (combinedOf (f .preds) (s .combination) (not (testOf (f .words) (f .doubles) s))))) (rw is (here refl))
+
   -- ---- setp's two places, from the predicates before either is written
 
   module _ (a b : Pred) (s : Comparison) (is : x .instruction ≡ Setp (Pair a b) s) where

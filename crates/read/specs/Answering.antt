@@ -29,7 +29,7 @@ applies l n (over-160 h) = too-long h
 applies l n (no-shape h k) = shapeless k
 applies l n (no-opcode h t s k) = unknown t s k
 applies l n (no-row h t s o k) = rowless t s k
-applies l n (no-fit h t s i r k) = unfit t s k
+applies l n (no-fit h t s i r k) = unfit t s i r k
 applies l n (out-of-file h t s m f e) = let q = outside-spelled t m (f .spells) e in outside t s (q .0) (q .1) (q .2)
 applies l n (same-pair h t s m f e k) = let q = equal-spelled t m (f .spells) k in equal t s (q .0) (q .1)
 
@@ -52,8 +52,8 @@ module _ (l : List ℕ) where
     no-4 : (Refuses l 4 → ⊥) → Applies l 4 → ⊥
     no-4 second (rowless t s z) = first (no-opcode short t s (λ o. second (no-row short t s o z)))
 
-    no-5 : (Refuses l 4 → ⊥) → (Refuses l 5 → ⊥) → Applies l 5 → ⊥
-    no-5 second third (unfit t s z) = first (no-opcode short t s (λ o. second (no-row short t s o (λ i r. third (no-fit short t s i r z)))))
+  no-5 : length l ≤ lineLimit → (Refuses l 5 → ⊥) → Applies l 5 → ⊥
+  no-5 h fifth (unfit t s i r z) = fifth (no-fit h t s i r z)
 
   no-6 : length l ≤ lineLimit → (t : LineTree) → Shaped l t → (m : Record) → Spells t m → numbersInRange m ≡ true → Applies l 6 → ⊥
   no-6 h t s m k e (outside u v q a b) = let c = inside-spelled u m (spelled-by-all l h t u s v m k) e q a in omega arith
@@ -72,19 +72,19 @@ module _ (l : List ℕ) where
   first-of n (no-fit h t s i c k) =
       let r = no-fit h t s i c k in
       let a = apart 5 3 (λ e. omega arith) r in
-      next (no-1 h) (next (no-2 t s) (next (no-3 h a) (next (no-4 h a (apart 5 4 (λ e. omega arith) r)) (this (unfit t s k)))))
+      next (no-1 h) (next (no-2 t s) (next (no-3 h a) (next (no-4 h a (apart 5 4 (λ e. omega arith) r)) (this (unfit t s i c k)))))
   first-of n (out-of-file h t s m f e) =
       let r = out-of-file h t s m f e in
       let a = apart 6 3 (λ e. omega arith) r in
       let b = apart 6 4 (λ e. omega arith) r in
-      next (no-1 h) (next (no-2 t s) (next (no-3 h a) (next (no-4 h a b) (next (no-5 h a b (apart 6 5 (λ e. omega arith) r)) (this (applies l 6 r))))))
+      next (no-1 h) (next (no-2 t s) (next (no-3 h a) (next (no-4 h a b) (next (no-5 h (apart 6 5 (λ e. omega arith) r)) (this (applies l 6 r))))))
   first-of n (same-pair h t s m f e k) =
       let r = same-pair h t s m f e k in
       let a = apart 7 3 (λ e. omega arith) r in
       let b = apart 7 4 (λ e. omega arith) r in
       let c = apart 7 5 (λ e. omega arith) r in
       next (no-1 h)
-      (next (no-2 t s) (next (no-3 h a) (next (no-4 h a b) (next (no-5 h a b c) (next (no-6 h t s m (f .spells) e) (this (applies l 7 r)))))))
+      (next (no-2 t s) (next (no-3 h a) (next (no-4 h a b) (next (no-5 h c) (next (no-6 h t s m (f .spells) e) (this (applies l 7 r)))))))
 
 -- ==== an accepted line
 
@@ -96,7 +96,7 @@ accepted-none l m r h n (unknown t s z) =
     z (row-listed (m .instruction) (t .opcode) (t .modifiers) (spelled-by-all l (r .short) (r .tree) t (r .shaped) s m (r .spells) .head))
 accepted-none l m r h n (rowless t s z) =
     z (m .instruction) (record { names = spelled-by-all l (r .short) (r .tree) t (r .shaped) s m (r .spells) .head; fit = legal-parts m h .0 })
-accepted-none l m r h n (unfit t s z) =
+accepted-none l m r h n (unfit t s i w z) =
     let k = legal-parts m h in
     z m (record { spells = spelled-by-all l (r .short) (r .tree) t (r .shaped) s m (r .spells); modifiers = k .0; operands = k .1 })
 accepted-none l m r h n (outside t s q a b) = no-6 l (r .short) (r .tree) (r .shaped) m (r .spells) (legal-parts m h .2) (outside t s q a b)

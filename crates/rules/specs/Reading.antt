@@ -115,7 +115,7 @@ operandsRegisters (o ∷ os) = operandRegisters o ++ operandsRegisters os
 abbrev pub registersOf : LineTree → List Place
 registersOf t = guardRegisters (t .guard) ++ operandsRegisters (operandsOf t)
 
--- the rows of the table, each said of the line alone, whatever else is wrong with it
+-- the rows of the table, each said of the line alone. 5 is asked of a head that is in the table, since the row says which operands are right
 pub data Applies (l : List ℕ) : ℕ → Type 0 where
   -- line over 160 bytes
   too-long : lineLimit < length l → Applies l 1
@@ -126,7 +126,7 @@ pub data Applies (l : List ℕ) : ℕ → Type 0 where
   -- modifiers not in the table
   rowless : (t : LineTree) → Shaped l t → ((i : Instruction) → Row t i → ⊥) → Applies l 4
   -- guard or operands wrong in count, kind, `!`, pair or selector
-  unfit : (t : LineTree) → Shaped l t → ((m : Record) → Fits t m → ⊥) → Applies l 5
+  unfit : (t : LineTree) → Shaped l t → (i : Instruction) → Row t i → ((m : Record) → Fits t m → ⊥) → Applies l 5
   -- a register number at or over its file's size
   outside : (t : LineTree) → Shaped l t → (q : Place) → Listed q (registersOf t) → fileSize q ≤ numberOf q → Applies l 6
   -- both places of a pair are the same predicate

@@ -5,22 +5,38 @@ use mathlib.Core.Bool.{Bool, true, _&&_, _||_}
 use mathlib.Core.List.{List, [], _∷_}
 use lib.Dec.{leb, eqb}
 use lib.ListN.{length}
+use Rattle.signs.specs.Digits.{zeroByte}
 
 -- the byte that ends a line of a listing
 abbrev pub lineFeed : ℕ
 lineFeed = 10
 
 -- Blank means space or tab
+abbrev pub spaceByte : ℕ
+spaceByte = 32
+
+abbrev pub tabByte : ℕ
+tabByte = 9
+
 abbrev pub isBlank : ℕ → Bool
-isBlank b = eqb b 32 || eqb b 9
+isBlank b = eqb b spaceByte || eqb b tabByte
 
 -- 0-9
+abbrev pub nineByte : ℕ
+nineByte = 57
+
 abbrev pub isDigit : ℕ → Bool
-isDigit b = leb 48 b && leb b 57
+isDigit b = leb zeroByte b && leb b nineByte
 
 -- a-z
+abbrev pub letterA : ℕ
+letterA = 97
+
+abbrev pub letterZ : ℕ
+letterZ = 122
+
 abbrev pub isLetter : ℕ → Bool
-isLetter b = leb 97 b && leb b 122
+isLetter b = leb letterA b && leb b letterZ
 
 -- one of a-z and 0-9
 abbrev pub isNameByte : ℕ → Bool
