@@ -4,13 +4,12 @@ use contract.Lifetimes.{Lfts}
 use borrow.Fn.Kinds.{Dens, endedOf}
 use denote.Triple.Clauses.{AtExit}
 use denote.Ref.{now}
-use Prim.Native.Nat.{ℕ, _≤_}
+use Prim.Native.Nat.{ℕ}
 use mathlib.Core.Path.{_≡_, subst}
 use mathlib.Core.List.{List}
-use lib.ListN.{length, take}
+use lib.ListN.{take}
 use Rattle.record.specs.Registers.{files}
-use Rattle.record.specs.Refusals.{Legal}
-use Rattle.rules.specs.StandardLine.{standard}
+use Rattle.rules.specs.Writing.{written}
 use Rattle.rules.specs.Reading.{read as record-read}
 use Rattle.read.specs.Paper as reading
 use Rattle.read.specs.declared.Reading.{Reading}
@@ -50,11 +49,11 @@ pub execute-demanded : (κs : Lfts 3) (a : Dens κs execute-kinds.ps) (x : Execu
     → ExecutedAsDemanded (a .0) (files (now (a .1 .0)) (now (a .1 .1 .0)) (now (a .1 .1 .1 .0))) (executing.answerOf x) (files (now (s .1 .0)) (now (s .1 .1 .0)) (now (s .1 .1 .1 .0)))
 execute-demanded κs a x s h = executed-as-demanded (a .0) _ (executing.answerOf x) _ h
 
--- reading the line that was written gives the record again
-pub read-after-write : (κs : Lfts 1) (a : Dens κs write-kinds.ps) (x : Written) (s : AtExit (endedOf 1 write-kinds.ps write-kinds.r) κs)
-    → write.Post κs a x s → Legal (a .0) → length (standard (a .0)) ≤ length (now (a .1 .0))
+-- reading the line that was written gives the record again: the first n bytes of the buffer, where `write` answered n
+pub read-after-write : (κs : Lfts 1) (a : Dens κs write-kinds.ps) (x : Written) (s : AtExit (endedOf 1 write-kinds.ps write-kinds.r) κs) (n : ℕ)
+    → write.Post κs a x s → writing.answerOf x ≡ written n
     → (ls : Lfts 1) (b : Dens ls read-kinds.ps) (y : Reading) (t : AtExit (endedOf 1 read-kinds.ps read-kinds.r) ls)
-    → now (b .0) ≡ take (length (standard (a .0))) (now (s .1 .0)) → read.Post ls b y t → reading.answerOf y ≡ record-read (a .0)
-read-after-write κs a x s h e room ls b y t l k =
-    written-then-read (a .0) (now (a .1 .0)) (now (s .1 .0)) (writing.answerOf x) (reading.answerOf y) e room (write-demanded κs a x s h)
+    → now (b .0) ≡ take n (now (s .1 .0)) → read.Post ls b y t → reading.answerOf y ≡ record-read (a .0)
+read-after-write κs a x s n h e ls b y t l k =
+    written-then-read (a .0) (now (a .1 .0)) (now (s .1 .0)) (writing.answerOf x) n (reading.answerOf y) (write-demanded κs a x s h) e
     (subst (λ (w : List ℕ). ReadAsDemanded w (reading.answerOf y)) l (read-demanded ls b y t k))

@@ -1,6 +1,6 @@
 -- The user's three demands, in their words and order, as laws of the whole bench: document 01 with the requests that have landed (T-01, T-02, T-04).
 -- `read`, `write` and `execute` of src/lib.rt promise `Answers`, `writing` and `run` for every input; these laws say what that means, and
--- proofs/Contracts.antt says the records at the end of this file of the functions' own contracts. What a definition says, its own file says
+-- proofs/Contracts.antt says the records at the end of this file of the functions' own contracts, and that these ask nothing. What a definition says, its own file says
 -- after the documents (docs/RULES.md leads the way). Assumes nothing.
 use Prim.Native.Nat.{ℕ, _+_, _%_, _≤_, _<_}
 use mathlib.Core.Path.{_≡_, refl, ap, sym, subst, _∙_}
@@ -8,6 +8,9 @@ use mathlib.Core.Bool.{Bool, true, false, not, _&&_, cond}
 use mathlib.Core.List.{List, [], _∷_, _++_}
 use lib.ListN.{length, take, drop}
 use lib.Seq.{take-at}
+use lib.Dec.{ltb}
+use native.Mathlib.Omega.{arith}
+use borrow.Author.Tests.{ltb-true, ltb-false}
 use lib.IntN.{pos, _+ℤ_}
 use Rattle.signs.specs.Bytes.{lineFeed}
 use Rattle.record.specs.Registers.{Files, Place, r, p, at, Inside, SameLengths}
@@ -297,10 +300,23 @@ executed-as-demanded x f a g h =
       lengths-stay = rw left (runs.lengths-stay x f);
     }
 
--- what was written, read again, is the record
-pub written-then-read : (x : Record) (b c : List ℕ) (a : paper.Answer) (y : Answer) → Legal x → length (standard x) ≤ length b → WrittenAsDemanded x b a c
-    → ReadAsDemanded (take (length (standard x)) c) y → y ≡ read x
-written-then-read x b c a y e room w r =
-    let line : take (length (standard x)) c ≡ standard x = rw (w .standard-line e room .1) (take-at (standard x) _ _ refl) in
-    let back : Relates (standard x) x × Legal x = promises.accepted-related (standard x) x (promises.standard-reads x e) in
-    r .related x (subst (λ (l : List ℕ). Relates l x) (sym line) (back .0)) e
+-- reading that line gives the record again: the first n bytes, where the writer answered n
+pub written-then-read : (x : Record) (b c : List ℕ) (a : paper.Answer) (n : ℕ) (y : Answer) → WrittenAsDemanded x b a c → a ≡ written n
+    → ReadAsDemanded (take n c) y → y ≡ read x
+written-then-read x b c a n y w h r = go (isLegal x) refl (ltb (length b) (length (standard x))) refl
+  where
+    other : (k : ℕ) → a ≡ paper.refused k → y ≡ read x
+    other k e =
+        let z : written n ≡ paper.refused k = sym h ∙ e in
+        let u : _≡_ {A = ℕ} 0 1 = cc in
+        absurd (omega arith)
+
+    go : (t : Bool) → isLegal x ≡ t → (u : Bool) → ltb (length b) (length (standard x)) ≡ u → y ≡ read x
+    go false e u f = other 8 (w .not-legal e)
+    go true e true f = other 9 (w .no-room e (ltb-true (length b) (length (standard x)) f))
+    go true e false f =
+        let k = w .standard-line e (ltb-false (length b) (length (standard x)) f) in
+        let z : written n ≡ written (length (standard x)) = sym h ∙ k .0 in
+        let m : n ≡ length (standard x) = cc in
+        let line : take n c ≡ standard x = rw (m, k .1) (take-at (standard x) _ _ refl) in
+        r .related x (subst (λ (l : List ℕ). Relates l x) (sym line) (promises.accepted-related (standard x) x (promises.standard-reads x e) .0)) e

@@ -1,4 +1,4 @@
--- Lines and the answers that document 01 gives them: lines that are read, each refusal 1 to 7, and lines to which two refusals apply. One list with one claim.
+-- Lines and the answers that document 01 gives them: lines that are read, each refusal 1 to 7, and lines to which more than one applies. One list with one claim.
 use Prim.Native.Nat.{ℕ}
 use mathlib.Core.Path.{_≡_, refl, subst}
 use mathlib.Core.List.{List, [], _∷_, _++_, map}
@@ -55,7 +55,7 @@ answered =
     ∷ gets (bytes "vmad.u32.u32.u32 %r1, %r2, %r3, %r4;") (refused 3)
     ∷ gets (bytes "setp.lt.u32 _|_, %r1, %r2;") (refused 5)
     ∷ gets (bytes "setp.lt.u32 %p1|%p1, %r1, %r2;") (refused 7)
-    -- each looked at only when the earlier ones don't apply: 1 and 2, 3 and 6, 4 and 5, 5 and 6, 6 and 7
+    -- each looked at only when the earlier ones don't apply: 1 and 2; 3, 4 and 6; 4 alone, though an operand is missing; 5 and 6; 6 and 7
     ∷ gets (replicate 161 32) (refused 1)
     ∷ gets (bytes "vmad.u32.u32.u32 %r64, %r2, %r3, %r4;") (refused 3)
     ∷ gets (bytes "vset4.u32.u32.ne.max %r1, %r2, %r3;") (refused 4)

@@ -1,7 +1,7 @@
 -- Document 01, "Bench figures": the starred ones; then fourteen for T-01, which came with its issue, and sixteen for T-02, of which document 02
--- has two; then those of document 01 without a star, and ten of ours. One list with one claim. Each is a line with its record and its
--- files, through `run`, and the whole outcome. `%r0`, `%r1` and `%r2` hold a, b and c; d is `%r3`. Predicate 0 holds c of setp; its places
--- are 1 and 2.
+-- has two; then document 01's seven of execution without a star, and ten of ours. One list with one claim. Each is a line with its record and
+-- its files, through `run`, and the whole outcome. `%r0`, `%r1` and `%r2` hold a, b and c; d is `%r3`. Predicate 0 holds c of setp; its
+-- places are 1 and 2.
 use Prim.Native.Nat.{ℕ}
 use Prim.Native.String.{String}
 use mathlib.Core.Path.{_≡_, refl}
@@ -180,7 +180,7 @@ picksA line spelled c = gives line spelled 0x80000001 0x007FFFFF c 0x80000001
 abbrev picksB : String → Record → ℕ → Figure
 picksB line spelled c = gives line spelled 0x80000001 0x007FFFFF c 0x007FFFFF
 
--- ---- the starred figures, and those for T-01 and T-02
+-- ---- the figures
 
 unfoldable pub figures : List Figure
 figures =
