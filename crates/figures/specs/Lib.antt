@@ -1,3 +1,4 @@
 pub mod Figures
 pub mod Lines
 pub mod Answered
+pub mod LaneFigures

@@ -121,11 +121,11 @@ module _ (op : LaneArith) (dtype : VideoType) (sat : Bool) (l : Lanes) (a b c : 
   add-sums e = rw e
 
 -- what is joined and what is summed goes by the lanes that there are
-joined-same : (n k : ℕ) (f g : ℕ → ℕ) → ((i : ℕ) → i < k → f i ≡ g i) → joined n k f ≡ joined n k g
+pub joined-same : (n k : ℕ) (f g : ℕ → ℕ) → ((i : ℕ) → i < k → f i ≡ g i) → joined n k f ≡ joined n k g
 joined-same n zero f g h = refl
 joined-same n (suc k) f g h = rw (h 0 (omega arith), joined-same n k (λ i. f (suc i)) (λ i. g (suc i)) (λ i p. h (suc i) (omega arith))) refl
 
-sum-same : (k : ℕ) (f g : ℕ → ℤ) → ((i : ℕ) → i < k → f i ≡ g i) → sumZ k f ≡ sumZ k g
+pub sum-same : (k : ℕ) (f g : ℕ → ℤ) → ((i : ℕ) → i < k → f i ≡ g i) → sumZ k f ≡ sumZ k g
 sum-same zero f g h = refl
 sum-same (suc k) f g h = rw (h 0 (omega arith), sum-same k (λ i. f (suc i)) (λ i. g (suc i)) (λ i p. h (suc i) (omega arith))) refl
 
@@ -173,7 +173,7 @@ halved-rounds-down (negsuc n) = go (n % 2) refl (mod-lt n (lit< tt))
 
 -- the low 8 or 16 bits replace that part of c, and the other parts stay
 module _ (w : LaneWidth) (k c v : ℕ) (small : v < laneSize w) where
-  part-replaced : (i : ℕ) → i < lanes w → partAt (laneSize w) (replaced w k c v) i ≡ cond (eqb i k) v (partAt (laneSize w) c i)
+  pub part-replaced : (i : ℕ) → i < lanes w → partAt (laneSize w) (replaced w k c v) i ≡ cond (eqb i k) v (partAt (laneSize w) c i)
   part-replaced i h =
       part-joined (laneSize w) (lanes w) (λ j. cond (eqb j k) v (partAt (laneSize w) c j)) i (size-pos w)
       (λ j. either-lt (eqb j k) v (partAt (laneSize w) c j) (laneSize w) small (part-lt (laneSize w) c j (size-pos w))) h

@@ -8,3 +8,5 @@ pub mod FloatLaws
 pub mod Choices
 pub mod LineLengths
 pub mod StandardTree
+pub mod LaneLaws
+pub mod TakenApartLaws

@@ -70,7 +70,7 @@ writes-destinations (Slct ctype s c) f = refl
 other : (xs : List ℕ) (m n v : ℕ) → (m ≡ n → ⊥) → getD (set xs m v) n 0 ≡ getD xs n 0
 other xs m n v h = getD-set-other xs m n v 0 (λ e. h (sym e))
 
-put-other : (q s : Place) (v : ℕ) (f : Files) → (s ≡ q → ⊥) → at (put s v f) q ≡ at f q
+pub put-other : (q s : Place) (v : ℕ) (f : Files) → (s ≡ q → ⊥) → at (put s v f) q ≡ at f q
 put-other (word n) (word m) v f h = other (f .words) m n v (λ e. h (ap word e))
 put-other (word n) (double m) v f h = refl
 put-other (word n) (pred m) v f h = refl
@@ -98,7 +98,7 @@ others-stay x f q h =
 same-lengths : (f : Files) → SameLengths f f
 same-lengths f = record { words = refl; doubles = refl; preds = refl }
 
-put-lengths : (q : Place) (v : ℕ) (f : Files) → SameLengths f (put q v f)
+pub put-lengths : (q : Place) (v : ℕ) (f : Files) → SameLengths f (put q v f)
 put-lengths (word n) v f = record { words = length-set (f .words) n v; doubles = refl; preds = refl }
 put-lengths (double n) v f = record { words = refl; doubles = length-set (f .doubles) n v; preds = refl }
 put-lengths (pred n) v f = record { words = refl; doubles = refl; preds = length-set (f .preds) n v }
@@ -193,12 +193,12 @@ Distinct [] = Unit {0}
 Distinct (q ∷ qs) = (Listed q qs → ⊥) × Distinct qs
 
 -- files of 64, 32 and 16 places
-record Sized (f : Files) : Type 0 where
+pub record Sized (f : Files) : Type 0 where
   words : length (f .words) ≡ wordCount
   doubles : length (f .doubles) ≡ doubleCount
   preds : length (f .preds) ≡ predCount
 
-sized : (f : Files) → sizesFit f ≡ true → Sized f
+pub sized : (f : Files) → sizesFit f ≡ true → Sized f
 unfolding sizesFit
 sized f e =
     let k = simp and-eq-true-iff at e in
@@ -209,7 +209,7 @@ put-sized q v f s =
     let k = put-lengths q v f in
     record { words = k .words ∙ s .words; doubles = k .doubles ∙ s .doubles; preds = k .preds ∙ s .preds }
 
-put-same : (q : Place) (v : ℕ) (f : Files) → Sized f → Inside q → at (put q v f) q ≡ v
+pub put-same : (q : Place) (v : ℕ) (f : Files) → Sized f → Inside q → at (put q v f) q ≡ v
 put-same (word n) v f s h = getD-set-same (f .words) n v 0 (rw (s .words) h)
 put-same (double n) v f s h = getD-set-same (f .doubles) n v 0 (rw (s .doubles) h)
 put-same (pred n) v f s h = getD-set-same (f .preds) n v 0 (rw (s .preds) h)

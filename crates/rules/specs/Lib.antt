@@ -8,3 +8,4 @@ pub mod Writing
 pub mod Numbers
 pub mod Execution
 pub mod Executing
+pub mod LaneScalars

@@ -1,0 +1,108 @@
+-- Request T-14, "One lane, one scalar", in a technician's words: what a SIMD line does, its scalar lines do. Laws of `run`, which `execute` of src/lib.rt promises for
+-- every input, once over the lane width and over what the lines do. Which scalar line a lane has says `laneScalar` in crates/rules/specs/LaneScalars.antt. Assumes nothing.
+use Prim.Native.Nat.{ℕ, _+_, _%_, _<_}
+use native.Mathlib.Omega.{arith}
+use mathlib.Core.Path.{_≡_, refl}
+use mathlib.Core.Bool.{Bool, true, false, _&&_, cond}
+use lib.IntN.{pos, _+ℤ_}
+use Rattle.signs.specs.Lists.{Listed}
+use Rattle.record.specs.Registers.{Files, r, at, Inside}
+use Rattle.record.specs.Refusals.{Legal, formInRange}
+use Rattle.record.specs.declared.Word.{Word}
+use Rattle.record.specs.declared.Cmp6.{Cmp6}
+use Rattle.record.specs.declared.Arith.{Arith}
+use Rattle.record.specs.declared.LaneArith
+use Rattle.record.specs.declared.LaneArith.{LaneArith}
+use Rattle.record.specs.declared.VideoType.{VideoType}
+use Rattle.record.specs.declared.Lanes.{Lanes}
+use Rattle.record.specs.declared.Form.{Form}
+use Rattle.record.specs.declared.Form.the-variants.{Plain, Merge}
+use Rattle.record.specs.declared.Instruction.the-variants.{ArithmeticLanes}
+use Rattle.record.specs.declared.Record.{Record}
+use Rattle.rules.specs.Numbers.{wordSize, laneSize, lanes, partAt, exactOf, isSigned, lowOf, bit}
+use Rattle.rules.specs.Execution.{maskAt, laneHolds, sumZ}
+use Rattle.rules.specs.Executing.{put, Admitted, guardHolds, run}
+use Rattle.rules.specs.LaneScalars.{Operation, compares, computes, simdOf, saturates, partSelector, laneRecord, maskedSum, takenApart, runAll}
+use Rattle.laws.specs.TakenApartLaws as laws
+
+-- the average, vavrg2 and vavrg4, has no scalar form; every other SIMD line is one of `simdOf`
+pub not-the-average : (o : Operation) (l k : Lanes) (dtype : VideoType) (sat : Bool) → simdOf o l ≡ ArithmeticLanes LaneArith.Vavrg dtype sat k → ⊥
+not-the-average (compares cmp) l k dtype sat e = let z : _≡_ {A = ℕ} 0 1 = cc in omega arith
+not-the-average (computes op t s) l k dtype sat e = let z : _≡_ {A = ℕ} 0 1 = cc in omega arith
+
+-- `sat` alone saturates, and vset has none
+pub sat-saturates : (op : Arith) (dtype : VideoType) (sat : Bool) → saturates (computes op dtype sat) ≡ sat
+sat-saturates op dtype sat = refl
+
+pub vset-does-not : (cmp : Cmp6) → saturates (compares cmp) ≡ false
+vset-does-not cmp = refl
+
+-- ==== x is a legal SIMD line. The scalar line of a lane is itself legal, with any word registers as its destination and its c
+
+module _ (x : Record) (legal : Legal x) (l : Lanes) where
+  pub scalar-legal : (o : Operation) → x .instruction ≡ simdOf o l → (i : ℕ) (form : Form) → formInRange form ≡ true → Legal (laneRecord (x .guard) o l i form)
+  scalar-legal o is i form h = laws.lane-legal x legal o l is i form h
+
+  -- ==== on files f that document 01 admits, with a guard that holds
+
+  module _ (f : Files) (admitted : Admitted f) (guard : guardHolds (f .preds) (x .guard) ≡ true) where
+    -- ---- vset2 and vset4
+
+    module _ (cmp : Cmp6) (is : x .instruction ≡ simdOf (compares cmp) l) (i : ℕ) (h : i < lanes (l .width)) (d : Word) (inside : Inside (r d)) where
+      -- running the scalar vset of a lane gives that lane's number in its destination: 1 or 0, as the lane holds
+      pub vset-gives-lane : at (run (laneRecord (x .guard) (compares cmp) l i (Plain d)) f .files) (r d) ≡ bit (laneHolds cmp l (at f (r (l .a))) (at f (r (l .b))) i)
+      vset-gives-lane = laws.vset-number x legal l f admitted guard cmp is i h d inside
+
+      -- "every masked lane of vset2 and vset4 without `add` equals the scalar vset on the parts its selectors pick, with the same types and comparison"
+      pub lane-is-vset : l .add ≡ false → maskAt (l .mask) i ≡ true
+          → partAt (laneSize (l .width)) (at (run x f .files) (r (l .d))) i ≡ at (run (laneRecord (x .guard) (compares cmp) l i (Plain d)) f .files) (r d)
+      lane-is-vset plain m = laws.vset-lane x legal l f admitted guard cmp is i h d inside plain m
+
+    -- ---- all but the average
+
+    -- "`add` equals c plus the sum of those scalar results, modulo 2^32", over the masked lanes; each scalar line may have a destination of its own
+    pub add-is-sum : (o : Operation) → x .instruction ≡ simdOf o l → saturates o ≡ false → l .add ≡ true → (d : ℕ → Word) → ((i : ℕ) → Inside (r (d i)))
+        → at (run x f .files) (r (l .d)) ≡ (at f (r (l .c)) + maskedSum l (λ i. at (run (laneRecord (x .guard) o l i (Plain (d i))) f .files) (r (d i)))) % wordSize
+    add-is-sum o is no-sat adds d inside = laws.lanes-add x legal o l is f admitted guard adds no-sat d inside
+
+    module _ (o : Operation) (is : x .instruction ≡ simdOf o l) (plain : l .add ≡ false) (i : ℕ) (h : i < lanes (l .width)) (masked : maskAt (l .mask) i ≡ true) (d : Word) (inside : Inside (r d)) where
+      -- with a selector on d, that of the lane's own part, the scalar line's part is the masked lane: the same low bits, and with `sat` the same clamp
+      pub lane-is-part : (c : Word) → Inside (r c)
+          → partAt (laneSize (l .width)) (at (run x f .files) (r (l .d))) i
+          ≡ partAt (laneSize (l .width)) (at (run (laneRecord (x .guard) o l i (Merge d (partSelector (l .width) i) c)) f .files) (r d)) i
+      lane-is-part c in-c = laws.lane-merges x legal o l is f admitted guard i h d inside plain masked c in-c
+
+      -- with a bare d and without `sat`, the masked lane is the low bits of the scalar line's word
+      pub lane-is-low : saturates o ≡ false
+          → partAt (laneSize (l .width)) (at (run x f .files) (r (l .d))) i ≡ at (run (laneRecord (x .guard) o l i (Plain d)) f .files) (r d) % laneSize (l .width)
+      lane-is-low no-sat = laws.lane-low x legal o l is f admitted guard i h d inside plain no-sat masked
+
+    -- with `sat` and `add` the clamp is at the lane's width: c plus the sum of what stands in the scalar lines' parts, each read by dtype
+    pub clamped-add-is-sum : (op : Arith) (dtype : VideoType) → x .instruction ≡ simdOf (computes op dtype true) l → l .add ≡ true
+        → (d c : ℕ → Word) → ((i : ℕ) → Inside (r (d i))) → ((i : ℕ) → Inside (r (c i)))
+        → at (run x f .files) (r (l .d))
+        ≡ lowOf wordSize
+        (pos (at f (r (l .c)))
+        +ℤ sumZ (lanes (l .width))
+        (λ i. cond (maskAt (l .mask) i)
+        (exactOf (isSigned dtype) (laneSize (l .width))
+        (partAt (laneSize (l .width)) (at (run (laneRecord (x .guard) (computes op dtype true) l i (Merge (d i) (partSelector (l .width) i) (c i))) f .files) (r (d i))) i))
+        (pos 0)))
+    clamped-add-is-sum op dtype is adds d c in-d in-c = laws.lanes-add-clamped x legal l f admitted guard op dtype is adds d c in-d in-c
+
+  -- ==== a technician may replace the SIMD line by its scalar lines, one after another (but for `sat` with `add`)
+
+  module _ (o : Operation) (is : x .instruction ≡ simdOf o l) where
+    -- all of them are legal,
+    pub lines-legal : (e : Word) → Inside (r e) → (y : Record) → Listed y (takenApart (x .guard) o l e) → Legal y
+    lines-legal e inside y m = laws.lines-legal x legal o l is e inside y m
+
+    module _ (one-line : saturates o && l .add ≡ false) (f : Files) (admitted : Admitted f) where
+      -- they leave in e, a register that is neither a nor b, what the SIMD line leaves in d, and move nothing else,
+      pub replaced-elsewhere : guardHolds (f .preds) (x .guard) ≡ true → (e : Word) → Inside (r e) → (e .0 ≡ l .a .0 → ⊥) → (e .0 ≡ l .b .0 → ⊥)
+          → runAll (takenApart (x .guard) o l e) f ≡ put (r e) (at (run x f .files) (r (l .d))) f
+      replaced-elsewhere guard e inside not-a not-b = laws.taken-apart x legal o l is f admitted e inside one-line guard not-a not-b
+
+      -- and in the SIMD line's place, with its d, they leave the files as it does, whether the guard holds or not
+      pub replaced : (l .d .0 ≡ l .a .0 → ⊥) → (l .d .0 ≡ l .b .0 → ⊥) → runAll (takenApart (x .guard) o l (l .d)) f ≡ run x f .files
+      replaced not-a not-b = laws.in-its-place x legal o l is f admitted one-line not-a not-b
