@@ -22,8 +22,9 @@ use Rattle.record.specs.declared.Record.{Record}
 use Rattle.rules.specs.Numbers.{wordSize, laneSize, lanes, partAt, exactOf, isSigned, lowOf, bit}
 use Rattle.rules.specs.Execution.{maskAt, laneHolds, sumZ}
 use Rattle.rules.specs.Executing.{put, Admitted, guardHolds, run}
-use Rattle.rules.specs.LaneScalars.{Operation, compares, computes, simdOf, saturates, partSelector, laneRecord, maskedSum, takenApart, runAll}
+use Rattle.rules.specs.LaneScalars.{Operation, compares, computes, simdOf, saturates, partSelector, laneRecord, maskedSum, takenApart, clampedApart, runAll}
 use Rattle.laws.specs.TakenApartLaws as laws
+use Rattle.laws.specs.ClampedLaws as clamped
 
 -- the average, vavrg2 and vavrg4, has no scalar form; every other SIMD line is one of `simdOf`
 pub not-the-average : (o : Operation) (l k : Lanes) (dtype : VideoType) (sat : Bool) → simdOf o l ≡ ArithmeticLanes LaneArith.Vavrg dtype sat k → ⊥
@@ -90,7 +91,7 @@ module _ (x : Record) (legal : Legal x) (l : Lanes) where
         (pos 0)))
     clamped-add-is-sum op dtype is adds d c in-d in-c = laws.lanes-add-clamped x legal l f admitted guard op dtype is adds d c in-d in-c
 
-  -- ==== a technician may replace the SIMD line by its scalar lines, one after another (but for `sat` with `add`)
+  -- ==== a technician may replace the SIMD line by its scalar lines, one after another. Without `sat` or without `add`, each lane has one:
 
   module _ (o : Operation) (is : x .instruction ≡ simdOf o l) where
     -- all of them are legal,
@@ -106,3 +107,16 @@ module _ (x : Record) (legal : Legal x) (l : Lanes) where
       -- and in the SIMD line's place, with its d, they leave the files as it does, whether the guard holds or not
       pub replaced : (l .d .0 ≡ l .a .0 → ⊥) → (l .d .0 ≡ l .b .0 → ⊥) → runAll (takenApart (x .guard) o l (l .d)) f ≡ run x f .files
       replaced not-a not-b = laws.in-its-place x legal o l is f admitted one-line not-a not-b
+
+  -- With `sat` and `add` each lane has two, by way of a spare register t:
+
+  module _ (op : Arith) (dtype : VideoType) (is : x .instruction ≡ simdOf (computes op dtype true) l) (t e : Word) (in-t : Inside (r t)) (in-e : Inside (r e)) where
+    -- all of them are legal,
+    pub clamped-lines-legal : (y : Record) → Listed y (clampedApart (x .guard) op dtype l t e) → Legal y
+    clamped-lines-legal y m = clamped.clamped-legal x legal op dtype l is t e in-t in-e y m
+
+    -- and they leave in e what the SIMD line leaves in d, something in t, and move nothing else, where t is none of e, a, b and c, and e is neither a nor b
+    pub clamped-replaced : l .add ≡ true → (f : Files) → Admitted f → guardHolds (f .preds) (x .guard) ≡ true
+        → (t .0 ≡ e .0 → ⊥) → (t .0 ≡ l .a .0 → ⊥) → (t .0 ≡ l .b .0 → ⊥) → (t .0 ≡ l .c .0 → ⊥) → (e .0 ≡ l .a .0 → ⊥) → (e .0 ≡ l .b .0 → ⊥)
+        → (w : ℕ) × (runAll (clampedApart (x .guard) op dtype l t e) f ≡ put (r e) (at (run x f .files) (r (l .d))) (put (r t) w f))
+    clamped-replaced adds f admitted guard te ta tb tc ea eb = clamped.clamped-apart x legal op dtype l is t e in-t in-e adds te ta tb tc ea eb f admitted guard

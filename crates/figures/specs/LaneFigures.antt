@@ -38,7 +38,7 @@ use Rattle.rules.specs.Numbers.{laneSize, lanes, partAt, exactOf, holdsZ}
 use Rattle.rules.specs.Execution.{selectedOf, formOf, arithmeticOf, vsetOf, digitAt, maskAt, laneHolds, lanesOf, laneResult, arithmeticLanesOf}
 use Rattle.rules.specs.StandardLine.{standard}
 use Rattle.rules.specs.Executing.{writes, after, sizesFit, predsFit, Admitted, guardHolds, run}
-use Rattle.rules.specs.LaneScalars.{Operation, compares, computes, simdOf, scalarOf, partSelector, digitOperand, laneScalar, takenApart, runAll}
+use Rattle.rules.specs.LaneScalars.{Operation, compares, computes, simdOf, scalarOf, partSelector, digitOperand, laneScalar, takenApart, clampedApart, runAll}
 use Rattle.laws.specs.TakenApartLaws.{vset-lane}
 
 -- a SIMD line, scalar lines, the files before both, and what `%r3` holds after the one and e after the others
@@ -153,17 +153,13 @@ rights =
     ∷ "vsub.u32.u32.u32.add %r4, %r0.b2, %r1.b2, %r4;"
     ∷ "vsub.u32.u32.u32.add %r4, %r0.b3, %r1.b3, %r4;" ∷ [])
     0 0x01010101 0x10 0x0000000C
-    -- `sat` with `add`, by hand: a lane is clamped in its own part, and that part is added by dtype
+    -- `sat` with `add`: a lane is clamped in its own part of %r5, and that part is added by dtype
     ∷ pair (computes Vsub S32 true) (bytesOf true (mask true false false true)) "vsub4.s32.u32.u32.sat.add %r3.b30, %r0, %r1, %r2;"
-    ("vsub.s32.u32.u32.sat %r5.b0, %r0.b0, %r1.b0, %r6;"
-    ∷ "vadd.s32.s32.u32 %r4, %r5.b0, %r2;"
-    ∷ "vsub.s32.u32.u32.sat %r5.b3, %r0.b3, %r1.b3, %r6;"
-    ∷ "vadd.s32.s32.u32 %r4, %r5.b3, %r4;" ∷ [])
-    (scalar (computes Vsub S32 true) U32 U32 (Merge spare B0 none) (Part a B0) (Part b B0)
-    ∷ scalar (computes Vadd S32 false) S32 U32 (Plain e) (Part spare B0) (Whole c)
-    ∷ scalar (computes Vsub S32 true) U32 U32 (Merge spare B3 none) (Part a B3) (Part b B3)
-    ∷ scalar (computes Vadd S32 false) S32 U32 (Plain e) (Part spare B3) (Whole e) ∷ []) e
-    0x00FF1080 0xFF001001 0x10 0x0000000F 0x0000000F
+    ("vsub.s32.u32.u32.sat %r5.b0, %r0.b0, %r1.b0, %r5;"
+    ∷ "vadd.s32.s32.s32 %r4, %r5.b0, %r2;"
+    ∷ "vsub.s32.u32.u32.sat %r5.b3, %r0.b3, %r1.b3, %r5;"
+    ∷ "vadd.s32.s32.s32 %r4, %r5.b3, %r4;" ∷ [])
+    (clampedApart Always Vsub S32 (bytesOf true (mask true false false true)) spare e) e 0x00FF1080 0xFF001001 0x10 0x0000000F 0x0000000F
     ∷ []
 
 pub rights-hold : map given rights ≡ map said rights

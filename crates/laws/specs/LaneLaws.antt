@@ -67,7 +67,7 @@ digit-named Byte s e (suc (suc (suc zero))) h = let k = simp and-eq-true-iff at 
 digit-named Byte s e (suc (suc (suc (suc i)))) h = absurd (omega arith)
 
 -- the selected part of a register, as an exact number
-part-number : (t : VideoType) (v : Word) (w : LaneWidth) (k x : ℕ) → k < lanes w
+pub part-number : (t : VideoType) (v : Word) (w : LaneWidth) (k x : ℕ) → k < lanes w
     → selectedOf t (Part v (partSelector w k)) x ≡ exactOf (isSigned t) (laneSize w) (partAt (laneSize w) x k)
 unfolding selectedOf
 part-number t v w k x h = rw (selector-width w k, selector-part w k h)
@@ -206,6 +206,9 @@ low-low Byte (negsuc x) = omega arith
 -- one scalar line on top of v
 abbrev pub stepOf : Lanes → Bool → ℕ → ℕ → ℤ → ℕ
 stepOf l signed i v z = cond (l .add) (lowOf wordSize (z +ℤ exactOf signed wordSize v)) (replaced (l .width) i v (lowOf (laneSize (l .width)) z))
+
+pub step-add : (l : Lanes) (signed : Bool) (i v : ℕ) (z : ℤ) → l .add ≡ true → stepOf l signed i v z ≡ lowOf wordSize (z +ℤ exactOf signed wordSize v)
+step-add l signed i v z e = rw e
 
 pub form-step : (l : Lanes) (signed : Bool) (i : ℕ) → i < lanes (l .width) → (e c : Word) (v : ℕ) (z : ℤ) → formOf signed (laneForm l e i c) v z ≡ stepOf l signed i v z
 unfolding formOf

@@ -10,3 +10,4 @@ pub mod LineLengths
 pub mod StandardTree
 pub mod LaneLaws
 pub mod TakenApartLaws
+pub mod ClampedLaws

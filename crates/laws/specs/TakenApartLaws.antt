@@ -16,6 +16,7 @@ use Rattle.record.specs.Refusals.{isLegal, Legal, guardInRange, selectedInRange
 use Rattle.record.specs.declared.Word.{Word}
 use Rattle.record.specs.declared.Cmp6.{Cmp6}
 use Rattle.record.specs.declared.Arith.{Arith}
+use Rattle.record.specs.declared.Selected.the-variants.{Whole}
 use Rattle.record.specs.declared.LaneArith
 use Rattle.record.specs.declared.LaneArith.{LaneArith}
 use Rattle.record.specs.declared.VideoType.{VideoType}
@@ -32,7 +33,7 @@ use Rattle.record.specs.declared.Instruction.{Instruction}
 use Rattle.record.specs.declared.Instruction.the-variants.{VsetLanes, ArithmeticLanes}
 use Rattle.record.specs.declared.Record.{Record}
 use Rattle.rules.specs.Numbers.{wordSize, laneSize, lanes, partAt, exactOf, isSigned, lowOf, bit}
-use Rattle.rules.specs.Execution.{arithmeticOf, vsetOf, arithmeticLanesOf, formOf, formSize, digitAt, maskAt, laneHolds, sumZ, groupOf}
+use Rattle.rules.specs.Execution.{selectedOf, arithmeticOf, vsetOf, arithmeticLanesOf, formOf, formSize, digitAt, maskAt, laneHolds, sumZ, groupOf}
 use Rattle.rules.specs.Executing.{wordOf, selectedWord, formC, formD, Write, write, writes, put, putAll, after, sizesFit, Admitted, guardHolds, run}
 use Rattle.rules.specs.LaneScalars.{Operation, compares, computes, simdOf, scalarOf, saturates, partSelector, digitOperand, laneScalar, laneRecord, maskedSum, laneForm, linesFrom, takenApart, runAll}
 use Rattle.laws.specs.PlaceLaws.{legal-parts}
@@ -43,7 +44,7 @@ use Rattle.laws.specs.LaneLaws.{selector-width, selector-part, isSignedO
 
 -- ==== both kinds of line, as they stand in `writes`
 
-scalar-writes : (o : Operation) (s : Scalar) (f : Files)
+pub scalar-writes : (o : Operation) (s : Scalar) (f : Files)
     → writes (scalarOf o s) f
     ≡ write (r (formD (s .form)))
     (formOf (isSignedOf o) (s .form) (formC (f .words) (s .form))
@@ -58,6 +59,10 @@ unfolding writes arithmeticLanesOf
 simd-writes (compares cmp) l f = ap (λ (v : ℕ). write (r (l .d)) v ∷ []) (vset-group cmp l (at f (r (l .a))) (at f (r (l .b))) (at f (r (l .c))))
 simd-writes (computes op dtype sat) l f = refl
 
+pub whole-number : (t : VideoType) (c : Word) (v : ℕ) → selectedOf t (Whole c) v ≡ exactOf (isSigned t) wordSize v
+unfolding selectedOf
+whole-number t c v = refl
+
 -- ==== legality
 
 simd-operands : (o : Operation) (l : Lanes) → instructionOperandsFit (simdOf o l) ≡ lanesFit l
@@ -68,7 +73,7 @@ simd-range : (o : Operation) (l : Lanes) → instructionInRange (simdOf o l) ≡
 simd-range (compares cmp) l = refl
 simd-range (computes op dtype sat) l = refl
 
-scalar-legal : (g : Guard) (o : Operation) (s : Scalar) → guardInRange g ≡ true → scalarInRange s ≡ true → Legal (record { guard = g; instruction = scalarOf o s })
+pub scalar-legal : (g : Guard) (o : Operation) (s : Scalar) → guardInRange g ≡ true → scalarInRange s ≡ true → Legal (record { guard = g; instruction = scalarOf o s })
 unfolding isLegal
 scalar-legal g (compares cmp) s e h = rw (e, h)
 scalar-legal g (computes op dtype sat) s e h = rw (e, h)
@@ -84,7 +89,7 @@ off : {A : Type 0} → false ≡ true → A
 off e = let y : _≡_ {A = ℕ} 0 1 = cc in absurd (omega arith)
 
 -- a legal mask names some lane
-some-masked : (w : LaneWidth) (m : Mask) → maskFits w m ≡ true → (i : ℕ) × (i < lanes w) × (maskAt m i ≡ true)
+pub some-masked : (w : LaneWidth) (m : Mask) → maskFits w m ≡ true → (i : ℕ) × (i < lanes w) × (maskAt m i ≡ true)
 some-masked w m e = go w (m .lane0) (m .lane1) (m .lane2) (m .lane3) refl refl refl refl e
   where
     go : (w : LaneWidth) (a b c d : Bool) → m .lane0 ≡ a → m .lane1 ≡ b → m .lane2 ≡ c → m .lane3 ≡ d → maskFits w m ≡ true → (i : ℕ) × (i < lanes w) × (maskAt m i ≡ true)
@@ -101,7 +106,7 @@ some-masked w m e = go w (m .lane0) (m .lane1) (m .lane2) (m .lane3) refl refl r
 
 -- ==== a word put into the files
 
-put-put : (n u v : ℕ) (f : Files) → put (word n) v (put (word n) u f) ≡ put (word n) v f
+pub put-put : (n u v : ℕ) (f : Files) → put (word n) v (put (word n) u f) ≡ put (word n) v f
 put-put n u v f = ap (λ (ws : List ℕ). files ws (f .doubles) (f .preds)) (twice (f .words) n)
   where
     twice : (ws : List ℕ) (n : ℕ) → set (set ws n u) n v ≡ set ws n v
@@ -109,14 +114,24 @@ put-put n u v f = ap (λ (ws : List ℕ). files ws (f .doubles) (f .preds)) (twi
     twice (w ∷ ws) zero = refl
     twice (w ∷ ws) (suc n) = ap (_∷_ w) (twice ws n)
 
-put-sizes : (n v : ℕ) (f : Files) → sizesFit f ≡ true → sizesFit (put (word n) v f) ≡ true
+pub put-past : (m n u v : ℕ) (f : Files) → (m ≡ n → ⊥) → put (word m) u (put (word n) v f) ≡ put (word n) v (put (word m) u f)
+put-past m n u v f h = ap (λ (ws : List ℕ). files ws (f .doubles) (f .preds)) (past (f .words) m n h)
+  where
+    past : (ws : List ℕ) (m n : ℕ) → (m ≡ n → ⊥) → set (set ws n v) m u ≡ set (set ws m u) n v
+    past [] m n h = refl
+    past (w ∷ ws) zero zero h = absurd (h refl)
+    past (w ∷ ws) zero (suc n) h = refl
+    past (w ∷ ws) (suc m) zero h = refl
+    past (w ∷ ws) (suc m) (suc n) h = ap (_∷_ w) (past ws m n (λ e. h (ap suc e)))
+
+pub put-sizes : (n v : ℕ) (f : Files) → sizesFit f ≡ true → sizesFit (put (word n) v f) ≡ true
 unfolding sizesFit
 put-sizes n v f e = rw (length-set (f .words) n v) e
 
 -- ==== a legal SIMD line
 
 module _ (x : Record) (legal : Legal x) (o : Operation) (l : Lanes) (is : x .instruction ≡ simdOf o l) where
-  fits : (maskFits (l .width) (l .mask) ≡ true) × (digitsFit (l .width) (l .asel) ≡ true) × (digitsFit (l .width) (l .bsel) ≡ true)
+  pub fits : (maskFits (l .width) (l .mask) ≡ true) × (digitsFit (l .width) (l .asel) ≡ true) × (digitsFit (l .width) (l .bsel) ≡ true)
   fits =
       let e : lanesFit l ≡ true = sym (simd-operands o l) ∙ ap instructionOperandsFit (sym is) ∙ legal-parts x legal .1 in
       split (maskFits (l .width) (l .mask)) (digitsFit (l .width) (l .asel)) (digitsFit (l .width) (l .bsel)) e
@@ -124,10 +139,10 @@ module _ (x : Record) (legal : Legal x) (o : Operation) (l : Lanes) (is : x .ins
       split : (a b c : Bool) → a && b && c ≡ true → (a ≡ true) × (b ≡ true) × (c ≡ true)
       split a b c e = let k = simp and-eq-true-iff at e in (k .0 .0, k .0 .1, k .1)
 
-  guard-range : guardInRange (x .guard) ≡ true
+  pub guard-range : guardInRange (x .guard) ≡ true
   guard-range = let k = simp and-eq-true-iff at (legal-parts x legal .2) in k .0
 
-  registers-range : (wordInFile (l .d) ≡ true) × (wordInFile (l .a) ≡ true) × (wordInFile (l .b) ≡ true) × (wordInFile (l .c) ≡ true)
+  pub registers-range : (wordInFile (l .d) ≡ true) × (wordInFile (l .a) ≡ true) × (wordInFile (l .b) ≡ true) × (wordInFile (l .c) ≡ true)
   registers-range =
       let e : guardInRange (x .guard) && lanesInRange l ≡ true = ap (_&&_ (guardInRange (x .guard))) (sym (simd-range o l) ∙ ap instructionInRange (sym is)) ∙ legal-parts x legal .2 in
       split (guardInRange (x .guard)) (wordInFile (l .d)) (wordInFile (l .a)) (wordInFile (l .b)) (wordInFile (l .c)) e
@@ -144,7 +159,7 @@ module _ (x : Record) (legal : Legal x) (o : Operation) (l : Lanes) (is : x .ins
   -- its scalar lines into e
 
   module _ (e : Word) (inside : Inside (r e)) where
-    e-range : wordInFile e ≡ true
+    pub e-range : wordInFile e ≡ true
     e-range = lt-ltb (e .0) wordCount inside
 
     -- where lane i goes, by `add`
@@ -188,7 +203,7 @@ module _ (x : Record) (legal : Legal x) (o : Operation) (l : Lanes) (is : x .ins
       abbrev resultOf : ℕ → ℤ
       resultOf i = laneZ o l (at f (r (l .a))) (at f (r (l .b))) i
 
-      simd-holds : at (run x f .files) (r (l .d)) ≡ groupOf l resultOf (at f (r (l .c)))
+      pub simd-holds : at (run x f .files) (r (l .d)) ≡ groupOf l resultOf (at f (r (l .c)))
       simd-holds =
           let e = ap (λ (i : Instruction). writes i f) is ∙ simd-writes o l f in
           holds-written x f legal admitted guard (write (r (l .d)) (groupOf l resultOf (at f (r (l .c))))) (rw e (here refl))

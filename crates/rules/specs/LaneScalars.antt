@@ -1,7 +1,7 @@
 -- Request T-14 of document 02, "One lane, one scalar": "People explain SIMD lines by taking them apart." A line of vset2, vset4 or of T-01's arithmetic, and its
 -- scalar lines, one for each lane that the mask names. Nothing in the bench runs this; crates/bench/specs/TakenApart.antt has the laws.
 use Prim.Native.Nat.{ℕ, zero, suc, _+_, _-_}
-use mathlib.Core.Bool.{Bool, false, cond}
+use mathlib.Core.Bool.{Bool, true, false, cond}
 use mathlib.Core.List.{List, [], _∷_}
 use lib.Dec.{ltb}
 use Rattle.record.specs.Registers.{Files}
@@ -9,6 +9,7 @@ use Rattle.record.specs.declared.Word.{Word}
 use Rattle.record.specs.declared.VideoType.{VideoType}
 use Rattle.record.specs.declared.Cmp6.{Cmp6}
 use Rattle.record.specs.declared.Arith.{Arith}
+use Rattle.record.specs.declared.Arith.the-variants.{Vadd}
 use Rattle.record.specs.declared.LaneArith
 use Rattle.record.specs.declared.LaneArith.{LaneArith}
 use Rattle.record.specs.declared.LaneWidth.{LaneWidth}
@@ -17,10 +18,10 @@ use Rattle.record.specs.declared.Lanes.{Lanes}
 use Rattle.record.specs.declared.Selector.{Selector}
 use Rattle.record.specs.declared.Selector.the-variants.{B0, B1, B2, B3, H0, H1}
 use Rattle.record.specs.declared.Selected.{Selected}
-use Rattle.record.specs.declared.Selected.the-variants.{Part}
+use Rattle.record.specs.declared.Selected.the-variants.{Whole, Part}
 use Rattle.record.specs.declared.Op2.the-variants.{Add}
 use Rattle.record.specs.declared.Form.{Form}
-use Rattle.record.specs.declared.Form.the-variants.{Merge, Combine}
+use Rattle.record.specs.declared.Form.the-variants.{Plain, Merge, Combine}
 use Rattle.record.specs.declared.Scalar.{Scalar}
 use Rattle.record.specs.declared.Guard.{Guard}
 use Rattle.record.specs.declared.Instruction.{Instruction}
@@ -47,6 +48,7 @@ abbrev pub scalarOf : Operation → Scalar → Instruction
 scalarOf (compares cmp) s = Vset cmp s
 scalarOf (computes op dtype sat) s = Arithmetic op dtype sat s
 
+-- whether `sat` stands there; vset has none
 abbrev pub saturates : Operation → Bool
 saturates (compares cmp) = false
 saturates (computes op dtype sat) = sat
@@ -76,21 +78,22 @@ laneScalar l i form = record {
   b = digitOperand l (digitAt (l .bsel) i);
 }
 
--- the scalar line of lane i, under a guard
+-- the scalar line of lane i, under the SIMD line's guard
 abbrev pub laneRecord : Guard → Operation → Lanes → ℕ → Form → Record
 laneRecord g o l i form = record { guard = g; instruction = scalarOf o (laneScalar l i form) }
 
--- the sum over the lanes that the mask names
+-- the sum of the first k numbers
 abbrev pub sum : ℕ → (ℕ → ℕ) → ℕ
 sum zero f = 0
 sum (suc k) f = f 0 + sum k (λ i. f (suc i))
 
+-- the sum over the lanes that the mask names
 abbrev pub maskedSum : Lanes → (ℕ → ℕ) → ℕ
 maskedSum l v = sum (lanes (l .width)) (λ i. cond (maskAt (l .mask) i) (v i) 0)
 
--- ==== the whole line
+-- ==== the whole line, taken apart into a register e
 
--- where lane i goes, into e and on top of what stands in c: with `add` it is added to c; else it replaces its part of c
+-- lane i on top of what stands in c: with `add` it is added to c; else it replaces its part of c
 abbrev pub laneForm : Lanes → Word → ℕ → Word → Form
 laneForm l e i c = cond (l .add) (Combine Add e c) (Merge e (partSelector (l .width) i) c)
 
@@ -101,9 +104,28 @@ linesFrom g o l e zero i c = []
 linesFrom g o l e (suc n) i c =
     cond (maskAt (l .mask) i) (laneRecord g o l i (laneForm l e i c) ∷ linesFrom g o l e n (suc i) e) (linesFrom g o l e n (suc i) c)
 
--- the scalar lines of all lanes, into e
+-- the scalar lines of all lanes
 abbrev pub takenApart : Guard → Operation → Lanes → Word → List Record
 takenApart g o l e = linesFrom g o l e (lanes (l .width)) 0 (l .c)
+
+-- `sat` with `add`: no scalar line does both at the lane's width, since with `add` d is bare, and `sat` clamps at 32 bits then. Two lines do: one clamps the lane into its part
+-- of a spare register t, and one adds that part, read by dtype, to c
+abbrev pub partAdded : Guard → VideoType → Word → Selector → Word → Word → Record
+partAdded g dtype t sel e c =
+    record { guard = g; instruction = Arithmetic Vadd dtype false (record { atype = dtype; btype = dtype; form = Plain e; a = Part t sel; b = Whole c }) }
+
+-- the two lines of each of the n lanes from lane i on, as above
+abbrev pub clampedFrom : Guard → Arith → VideoType → Lanes → Word → Word → ℕ → ℕ → Word → List Record
+clampedFrom g op dtype l t e zero i c = []
+clampedFrom g op dtype l t e (suc n) i c =
+    cond (maskAt (l .mask) i)
+    (laneRecord g (computes op dtype true) l i (Merge t (partSelector (l .width) i) t)
+    ∷ partAdded g dtype t (partSelector (l .width) i) e c
+    ∷ clampedFrom g op dtype l t e n (suc i) e)
+    (clampedFrom g op dtype l t e n (suc i) c)
+
+abbrev pub clampedApart : Guard → Arith → VideoType → Lanes → Word → Word → List Record
+clampedApart g op dtype l t e = clampedFrom g op dtype l t e (lanes (l .width)) 0 (l .c)
 
 -- the files after the lines, one after another
 abbrev pub runAll : List Record → Files → Files
