@@ -3,8 +3,7 @@
 use Prim.Native.Nat.{ℕ, _+_, _%_, _<_}
 use native.Mathlib.Omega.{arith}
 use mathlib.Core.Path.{_≡_, refl}
-use mathlib.Core.Bool.{Bool, true, false, _&&_, cond}
-use lib.IntN.{pos, _+ℤ_}
+use mathlib.Core.Bool.{Bool, true, false, _&&_}
 use Rattle.signs.specs.Lists.{Listed}
 use Rattle.record.specs.Registers.{Files, r, at, Inside}
 use Rattle.record.specs.Refusals.{Legal, formInRange}
@@ -19,10 +18,10 @@ use Rattle.record.specs.declared.Form.{Form}
 use Rattle.record.specs.declared.Form.the-variants.{Plain, Merge}
 use Rattle.record.specs.declared.Instruction.the-variants.{ArithmeticLanes}
 use Rattle.record.specs.declared.Record.{Record}
-use Rattle.rules.specs.Numbers.{wordSize, laneSize, lanes, partAt, exactOf, isSigned, lowOf, bit}
-use Rattle.rules.specs.Execution.{maskAt, laneHolds, sumZ}
+use Rattle.rules.specs.Numbers.{wordSize, laneSize, lanes, partAt, bit}
+use Rattle.rules.specs.Execution.{maskAt, laneHolds}
 use Rattle.rules.specs.Executing.{put, Admitted, guardHolds, run}
-use Rattle.rules.specs.LaneScalars.{Operation, compares, computes, simdOf, saturates, partSelector, laneRecord, maskedSum, takenApart, clampedApart, runAll}
+use Rattle.rules.specs.LaneScalars.{Operation, compares, computes, simdOf, saturates, partSelector, laneRecord, maskedSum, extended, takenApart, clampedApart, runAll}
 use Rattle.laws.specs.TakenApartLaws as laws
 use Rattle.laws.specs.ClampedLaws as clamped
 
@@ -82,13 +81,7 @@ module _ (x : Record) (legal : Legal x) (l : Lanes) where
     pub clamped-add-is-sum : (op : Arith) (dtype : VideoType) → x .instruction ≡ simdOf (computes op dtype true) l → l .add ≡ true
         → (d c : ℕ → Word) → ((i : ℕ) → Inside (r (d i))) → ((i : ℕ) → Inside (r (c i)))
         → at (run x f .files) (r (l .d))
-        ≡ lowOf wordSize
-        (pos (at f (r (l .c)))
-        +ℤ sumZ (lanes (l .width))
-        (λ i. cond (maskAt (l .mask) i)
-        (exactOf (isSigned dtype) (laneSize (l .width))
-        (partAt (laneSize (l .width)) (at (run (laneRecord (x .guard) (computes op dtype true) l i (Merge (d i) (partSelector (l .width) i) (c i))) f .files) (r (d i))) i))
-        (pos 0)))
+        ≡ (at f (r (l .c)) + maskedSum l (λ i. extended l dtype i (at (run (laneRecord (x .guard) (computes op dtype true) l i (Merge (d i) (partSelector (l .width) i) (c i))) f .files) (r (d i))))) % wordSize
     clamped-add-is-sum op dtype is adds d c in-d in-c = laws.lanes-add-clamped x legal l f admitted guard op dtype is adds d c in-d in-c
 
   -- ==== a technician may replace the SIMD line by its scalar lines, one after another. Without `sat` or without `add`, each lane has one:

@@ -8,7 +8,7 @@ use mathlib.Core.List.{List}
 use lib.Dec.{ltb, leb, eqb, lit<}
 use lib.IntN.{ℤ, pos, negsuc, subℕ, negℤ, _+ℤ_}
 use lib.Signed.{mag, ltZ}
-use borrow.Author.Tests.{eqb-true, eqb-false, eq-eqb, ltb-true, ltb-false, lt-ltb, leb-true, le-leb, lt-leb}
+use borrow.Author.Tests.{eqb-true, eqb-false, eq-eqb, ne-eqb, ltb-true, ltb-false, lt-ltb, leb-true, le-leb, lt-leb}
 use Rattle.record.specs.Operands.{digitFits, digitsFit}
 use Rattle.record.specs.declared.VideoType.{VideoType}
 use Rattle.record.specs.declared.Word.{Word}
@@ -285,21 +285,14 @@ module _ (l : Lanes) (t : ℕ → ℤ) (signed : Bool) where
     abbrev worked : ℕ → ℕ → ℕ → ℕ
     worked i j p = cond (leb i j && maskAt (l .mask) j) (low j) p
 
-    masked-worked : (i j p : ℕ) → maskAt (l .mask) i ≡ true → worked (suc i) j (cond (eqb j i) (low i) p) ≡ worked i j p
-    masked-worked i j p m = go (eqb j i) (ltb j i) refl refl
+    -- lane i, of which q is there afterwards
+    worked-step : (i j p q : ℕ) → (j ≡ i → q ≡ cond (maskAt (l .mask) i) (low i) p) → ((j ≡ i → ⊥) → q ≡ p) → worked (suc i) j q ≡ worked i j p
+    worked-step i j p q same other = go (eqb j i) (ltb j i) refl refl
       where
-        go : (s u : Bool) → eqb j i ≡ s → ltb j i ≡ u → worked (suc i) j (cond (eqb j i) (low i) p) ≡ worked i j p
-        go true u e f = let k : j ≡ i = eqb-true j i e in rw (k, lt-leb (suc i) i (omega arith), eq-eqb i i refl, le-leb i i (omega arith), m)
-        go false true e f = let k : j < i = ltb-true j i f in rw (e, lt-leb (suc i) j (omega arith), lt-leb i j (omega arith))
-        go false false e f = let k : i < j = above i j (ltb-false j i f) (eqb-false j i e) in rw (e, le-leb (suc i) j (omega arith), le-leb i j (omega arith))
-
-    unmasked-worked : (i j p : ℕ) → maskAt (l .mask) i ≡ false → worked (suc i) j p ≡ worked i j p
-    unmasked-worked i j p m = go (eqb j i) (ltb j i) refl refl
-      where
-        go : (s u : Bool) → eqb j i ≡ s → ltb j i ≡ u → worked (suc i) j p ≡ worked i j p
-        go true u e f = let k : j ≡ i = eqb-true j i e in rw (k, lt-leb (suc i) i (omega arith), le-leb i i (omega arith), m)
-        go false true e f = let k : j < i = ltb-true j i f in rw (lt-leb (suc i) j (omega arith), lt-leb i j (omega arith))
-        go false false e f = let k : i < j = above i j (ltb-false j i f) (eqb-false j i e) in rw (le-leb (suc i) j (omega arith), le-leb i j (omega arith))
+        go : (s u : Bool) → eqb j i ≡ s → ltb j i ≡ u → worked (suc i) j q ≡ worked i j p
+        go true u e f = let k : j ≡ i = eqb-true j i e in rw (k, lt-leb (suc i) i (omega arith), le-leb i i (omega arith)) (same k)
+        go false true e f = let k : j < i = ltb-true j i f in rw (lt-leb (suc i) j (omega arith), lt-leb i j (omega arith)) (other (eqb-false j i e))
+        go false false e f = let k : i < j = above i j (ltb-false j i f) (eqb-false j i e) in rw (other (eqb-false j i e), le-leb (suc i) j (omega arith), le-leb i j (omega arith))
 
     chain-parts : (n i v : ℕ) → n + i ≡ lanes (l .width) → (j : ℕ) → j < lanes (l .width)
         → partAt (laneSize (l .width)) (chain n i v) j ≡ worked i j (partAt (laneSize (l .width)) v j)
@@ -312,8 +305,8 @@ module _ (l : Lanes) (t : ℕ → ℤ) (signed : Bool) where
         go true m next =
             next (stepOf l signed i v (t i))
             ∙ ap (worked (suc i) j) (ap (λ (x : ℕ). partAt (laneSize (l .width)) x j) (step-plain i v) ∙ part-replaced (l .width) i v (low i) (low-small i) j h)
-            ∙ masked-worked i j (partAt (laneSize (l .width)) v j) m
-        go false m next = next v ∙ unmasked-worked i j (partAt (laneSize (l .width)) v j) m
+            ∙ worked-step i j (partAt (laneSize (l .width)) v j) _ (λ k. rw (eq-eqb j i k, m)) (λ k. rw (ne-eqb j i k))
+        go false m next = next v ∙ worked-step i j (partAt (laneSize (l .width)) v j) (partAt (laneSize (l .width)) v j) (λ k. rw m) (λ k. refl)
 
     chain-merged : (c j : ℕ) → j < lanes (l .width) → maskAt (l .mask) j ≡ true → chain (lanes (l .width)) 0 c ≡ merged l low c
     chain-merged c j h m =

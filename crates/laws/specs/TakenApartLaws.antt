@@ -6,7 +6,7 @@ use mathlib.Core.Bool.{Bool, true, false, _&&_, cond, and-eq-true-iff}
 use mathlib.Core.List.{List, [], _∷_}
 use lib.ListN.{set, length-set}
 use lib.Dec.{ltb}
-use lib.IntN.{ℤ, pos, _+ℤ_}
+use lib.IntN.{ℤ, pos}
 use borrow.Author.Tests.{ltb-true, lt-ltb}
 use Rattle.signs.specs.Lists.{Listed}
 use Rattle.signs.specs.Lists.Listed.{here, later}
@@ -33,13 +33,13 @@ use Rattle.record.specs.declared.Instruction.{Instruction}
 use Rattle.record.specs.declared.Instruction.the-variants.{VsetLanes, ArithmeticLanes}
 use Rattle.record.specs.declared.Record.{Record}
 use Rattle.rules.specs.Numbers.{wordSize, laneSize, lanes, partAt, exactOf, isSigned, lowOf, bit}
-use Rattle.rules.specs.Execution.{selectedOf, arithmeticOf, vsetOf, arithmeticLanesOf, formOf, formSize, digitAt, maskAt, laneHolds, sumZ, groupOf}
+use Rattle.rules.specs.Execution.{selectedOf, arithmeticOf, vsetOf, arithmeticLanesOf, formOf, formSize, digitAt, maskAt, laneHolds, groupOf}
 use Rattle.rules.specs.Executing.{wordOf, selectedWord, formC, formD, Write, write, writes, put, putAll, after, sizesFit, Admitted, guardHolds, run}
-use Rattle.rules.specs.LaneScalars.{Operation, compares, computes, simdOf, scalarOf, saturates, partSelector, digitOperand, laneScalar, laneRecord, maskedSum, laneForm, linesFrom, takenApart, runAll}
+use Rattle.rules.specs.LaneScalars.{Operation, compares, computes, simdOf, scalarOf, saturates, partSelector, digitOperand, laneScalar, laneRecord, maskedSum, extended, laneForm, linesFrom, takenApart, runAll}
 use Rattle.laws.specs.PlaceLaws.{legal-parts}
 use Rattle.laws.specs.OutcomeLaws.{executes, skips}
 use Rattle.laws.specs.RunLaws.{holds-written, masked-lane, sized, put-same, put-other}
-use Rattle.laws.specs.ExecutionLaws.{size-pos, low-lt, masked-gets, selected-part-replaced, sum-same, vset-group}
+use Rattle.laws.specs.ExecutionLaws.{size-pos, low-lt, masked-gets, selected-part-replaced, vset-group}
 use Rattle.laws.specs.LaneLaws.{selector-width, selector-part, isSignedOf, laneZ, scalarZ, at-width, unclamped, group-plain, group-adds, added-low, stepOf, form-step, past-unmasked, low-low, chain, chain-group, clamped-lane}
 
 -- ==== both kinds of line, as they stand in `writes`
@@ -411,18 +411,11 @@ module _ (x : Record) (legal : Legal x) (l : Lanes) (f : Files) (admitted : Admi
   pub lanes-add-clamped : (op : Arith) (dtype : VideoType) → x .instruction ≡ ArithmeticLanes (LaneArith.Scalar op) dtype true l → l .add ≡ true
       → (d c : ℕ → Word) → ((i : ℕ) → Inside (r (d i))) → ((i : ℕ) → Inside (r (c i)))
       → at (run x f .files) (r (l .d))
-      ≡ lowOf wordSize
-      (pos (at f (r (l .c)))
-      +ℤ sumZ (lanes (l .width))
-      (λ i. cond (maskAt (l .mask) i)
-      (exactOf (isSigned dtype) (laneSize (l .width))
-      (partAt (laneSize (l .width)) (at (run (laneRecord (x .guard) (computes op dtype true) l i (Merge (d i) (partSelector (l .width) i) (c i))) f .files) (r (d i))) i))
-      (pos 0)))
+      ≡ (at f (r (l .c)) + maskedSum l (λ i. extended l dtype i (at (run (laneRecord (x .guard) (computes op dtype true) l i (Merge (d i) (partSelector (l .width) i) (c i))) f .files) (r (d i))))) % wordSize
   lanes-add-clamped op dtype is adds d c inside-d inside-c =
       simd-holds x legal (computes op dtype true) l is f admitted guard
       ∙ group-adds l (resultOf x legal (computes op dtype true) l is f admitted guard) (at f (r (l .c))) adds
-      ∙ ap (λ (z : ℤ). lowOf wordSize (pos (at f (r (l .c))) +ℤ z))
-      (sum-same (lanes (l .width)) _ _
-      (λ i h. ap (λ (z : ℤ). cond (maskAt (l .mask) i) z (pos 0))
+      ∙ added-low l (resultOf x legal (computes op dtype true) l is f admitted guard) _ (at f (r (l .c)))
+      (λ i h m. ap (lowOf wordSize)
       (sym (ap (exactOf (isSigned dtype) (laneSize (l .width))) (merge-holds x legal (computes op dtype true) l is f admitted guard i h (d i) (inside-d i) (c i) (inside-c i))
-      ∙ clamped-lane op dtype l (at f (r (l .a))) (at f (r (l .b))) i))))
+      ∙ clamped-lane op dtype l (at f (r (l .a))) (at f (r (l .b))) i)))

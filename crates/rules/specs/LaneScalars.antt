@@ -27,7 +27,7 @@ use Rattle.record.specs.declared.Guard.{Guard}
 use Rattle.record.specs.declared.Instruction.{Instruction}
 use Rattle.record.specs.declared.Instruction.the-variants.{Arithmetic, Vset, VsetLanes, ArithmeticLanes}
 use Rattle.record.specs.declared.Record.{Record}
-use Rattle.rules.specs.Numbers.{lanes}
+use Rattle.rules.specs.Numbers.{wordSize, laneSize, lanes, partAt, exactOf, isSigned, lowOf}
 use Rattle.rules.specs.Execution.{digitAt, maskAt}
 use Rattle.rules.specs.Executing.{run}
 
@@ -90,6 +90,10 @@ sum (suc k) f = f 0 + sum k (λ i. f (suc i))
 -- the sum over the lanes that the mask names
 abbrev pub maskedSum : Lanes → (ℕ → ℕ) → ℕ
 maskedSum l v = sum (lanes (l .width)) (λ i. cond (maskAt (l .mask) i) (v i) 0)
+
+-- part i of a word v, read by dtype, as 32 bits
+abbrev pub extended : Lanes → VideoType → ℕ → ℕ → ℕ
+extended l dtype i v = lowOf wordSize (exactOf (isSigned dtype) (laneSize (l .width)) (partAt (laneSize (l .width)) v i))
 
 -- ==== the whole line, taken apart into a register e
 
