@@ -16,7 +16,7 @@ use Rattle.record.specs.declared.VideoType.{VideoType}
 use Rattle.record.specs.declared.Lanes.{Lanes}
 use Rattle.record.specs.declared.Form.{Form}
 use Rattle.record.specs.declared.Form.the-variants.{Plain, Merge}
-use Rattle.record.specs.declared.Instruction.the-variants.{ArithmeticLanes}
+use Rattle.record.specs.declared.Instruction.the-variants.{VsetLanes, ArithmeticLanes}
 use Rattle.record.specs.declared.Record.{Record}
 use Rattle.rules.specs.Numbers.{wordSize, laneSize, lanes, partAt, bit}
 use Rattle.rules.specs.Execution.{maskAt, laneHolds}
@@ -25,7 +25,15 @@ use Rattle.rules.specs.LaneScalars.{Operation, compares, computes, simdOf, satu
 use Rattle.laws.specs.TakenApartLaws as laws
 use Rattle.laws.specs.ClampedLaws as clamped
 
--- the average, vavrg2 and vavrg4, has no scalar form; every other SIMD line is one of `simdOf`
+-- every line of vset2 and vset4, and every line of T-01's but the average, is one of `simdOf`
+pub every-vset : (cmp : Cmp6) (l : Lanes) → (o : Operation) × (simdOf o l ≡ VsetLanes cmp l)
+every-vset cmp l = (compares cmp, refl)
+
+pub every-but-the-average : (op : LaneArith) (dtype : VideoType) (sat : Bool) (l : Lanes) → (op ≡ LaneArith.Vavrg → ⊥) → (o : Operation) × (simdOf o l ≡ ArithmeticLanes op dtype sat l)
+every-but-the-average (LaneArith.Scalar op) dtype sat l not-it = (computes op dtype sat, refl)
+every-but-the-average LaneArith.Vavrg dtype sat l not-it = absurd (not-it refl)
+
+-- the average, vavrg2 and vavrg4, has no scalar form
 pub not-the-average : (o : Operation) (l k : Lanes) (dtype : VideoType) (sat : Bool) → simdOf o l ≡ ArithmeticLanes LaneArith.Vavrg dtype sat k → ⊥
 not-the-average (compares cmp) l k dtype sat e = let z : _≡_ {A = ℕ} 0 1 = cc in omega arith
 not-the-average (computes op t s) l k dtype sat e = let z : _≡_ {A = ℕ} 0 1 = cc in omega arith
@@ -87,29 +95,44 @@ module _ (x : Record) (legal : Legal x) (l : Lanes) where
   -- ==== a technician may replace the SIMD line by its scalar lines, one after another. Without `sat` or without `add`, each lane has one:
 
   module _ (o : Operation) (is : x .instruction ≡ simdOf o l) where
-    -- all of them are legal,
-    pub lines-legal : (e : Word) → Inside (r e) → (y : Record) → Listed y (takenApart (x .guard) o l e) → Legal y
-    lines-legal e inside y m = laws.lines-legal x legal o l is e inside y m
+    -- all of them are legal, and under the SIMD line's guard,
+    pub lines-legal : (e : Word) → Inside (r e) → (y : Record) → Listed y (takenApart (x .guard) o l e) → Legal y × (y .guard ≡ x .guard)
+    lines-legal e inside y m = laws.lines-guarded x legal o l is e inside y m
 
-    module _ (one-line : saturates o && l .add ≡ false) (f : Files) (admitted : Admitted f) where
-      -- they leave in e, a register that is neither a nor b, what the SIMD line leaves in d, and move nothing else,
-      pub replaced-elsewhere : guardHolds (f .preds) (x .guard) ≡ true → (e : Word) → Inside (r e) → (e .0 ≡ l .a .0 → ⊥) → (e .0 ≡ l .b .0 → ⊥)
-          → runAll (takenApart (x .guard) o l e) f ≡ put (r e) (at (run x f .files) (r (l .d))) f
-      replaced-elsewhere guard e inside not-a not-b = laws.taken-apart x legal o l is f admitted e inside one-line guard not-a not-b
+    module _ (f : Files) (admitted : Admitted f) where
+      -- so where it does not hold, all of them are skipped, as the SIMD line is.
+      pub lines-skipped : guardHolds (f .preds) (x .guard) ≡ false → (e : Word) → Inside (r e) → runAll (takenApart (x .guard) o l e) f ≡ f
+      lines-skipped guard e inside = laws.lines-skipped x legal o l is f admitted e inside guard
 
-      -- and in the SIMD line's place, with its d, they leave the files as it does, whether the guard holds or not
-      pub replaced : (l .d .0 ≡ l .a .0 → ⊥) → (l .d .0 ≡ l .b .0 → ⊥) → runAll (takenApart (x .guard) o l (l .d)) f ≡ run x f .files
-      replaced not-a not-b = laws.in-its-place x legal o l is f admitted one-line not-a not-b
+      module _ (one-line : saturates o && l .add ≡ false) where
+        -- Where it holds, they leave in e, a register that is neither a nor b, what the SIMD line leaves in d, and move nothing else,
+        pub replaced-elsewhere : guardHolds (f .preds) (x .guard) ≡ true → (e : Word) → Inside (r e) → (e .0 ≡ l .a .0 → ⊥) → (e .0 ≡ l .b .0 → ⊥)
+            → runAll (takenApart (x .guard) o l e) f ≡ put (r e) (at (run x f .files) (r (l .d))) f
+        replaced-elsewhere guard e inside not-a not-b = laws.taken-apart x legal o l is f admitted e inside one-line guard not-a not-b
 
-  -- With `sat` and `add` each lane has two, by way of a spare register t:
+        -- and in the SIMD line's place, with its d, they leave the files as it does, whether the guard holds or not
+        pub replaced-in-place : (l .d .0 ≡ l .a .0 → ⊥) → (l .d .0 ≡ l .b .0 → ⊥) → runAll (takenApart (x .guard) o l (l .d)) f ≡ run x f .files
+        replaced-in-place not-a not-b = laws.in-place x legal o l is f admitted one-line not-a not-b
 
-  module _ (op : Arith) (dtype : VideoType) (is : x .instruction ≡ simdOf (computes op dtype true) l) (t e : Word) (in-t : Inside (r t)) (in-e : Inside (r e)) where
-    -- all of them are legal,
-    pub clamped-lines-legal : (y : Record) → Listed y (clampedApart (x .guard) op dtype l t e) → Legal y
-    clamped-lines-legal y m = clamped.clamped-legal x legal op dtype l is t e in-t in-e y m
+  -- With `sat` and `add` each lane has two, by way of a spare register t, which is none of the registers that the lines read or leave their result in:
 
-    -- and they leave in e what the SIMD line leaves in d, something in t, and move nothing else, where t is none of e, a, b and c, and e is neither a nor b
-    pub clamped-replaced : l .add ≡ true → (f : Files) → Admitted f → guardHolds (f .preds) (x .guard) ≡ true
-        → (t .0 ≡ e .0 → ⊥) → (t .0 ≡ l .a .0 → ⊥) → (t .0 ≡ l .b .0 → ⊥) → (t .0 ≡ l .c .0 → ⊥) → (e .0 ≡ l .a .0 → ⊥) → (e .0 ≡ l .b .0 → ⊥)
-        → (w : ℕ) × (runAll (clampedApart (x .guard) op dtype l t e) f ≡ put (r e) (at (run x f .files) (r (l .d))) (put (r t) w f))
-    clamped-replaced adds f admitted guard te ta tb tc ea eb = clamped.clamped-apart x legal op dtype l is t e in-t in-e adds te ta tb tc ea eb f admitted guard
+  module _ (op : Arith) (dtype : VideoType) (is : x .instruction ≡ simdOf (computes op dtype true) l) (t : Word) (in-t : Inside (r t)) where
+    -- all of them are legal, and under the SIMD line's guard,
+    pub clamped-lines-legal : (e : Word) → Inside (r e) → (y : Record) → Listed y (clampedApart (x .guard) op dtype l t e) → Legal y × (y .guard ≡ x .guard)
+    clamped-lines-legal e in-e y m = clamped.clamped-guarded x legal op dtype l is t e in-t in-e y m
+
+    module _ (f : Files) (admitted : Admitted f) where
+      -- so where it does not hold, all of them are skipped.
+      pub clamped-lines-skipped : guardHolds (f .preds) (x .guard) ≡ false → (e : Word) → Inside (r e) → runAll (clampedApart (x .guard) op dtype l t e) f ≡ f
+      clamped-lines-skipped guard e in-e = clamped.clamped-skipped x legal op dtype l is t e in-t in-e f admitted guard
+
+      module _ (adds : l .add ≡ true) (not-a : t .0 ≡ l .a .0 → ⊥) (not-b : t .0 ≡ l .b .0 → ⊥) (not-c : t .0 ≡ l .c .0 → ⊥) where
+        -- Where it holds, they leave in e what the SIMD line leaves in d, something in t, and move nothing else, where e is neither a nor b,
+        pub clamped-elsewhere : guardHolds (f .preds) (x .guard) ≡ true → (e : Word) → Inside (r e) → (t .0 ≡ e .0 → ⊥) → (e .0 ≡ l .a .0 → ⊥) → (e .0 ≡ l .b .0 → ⊥)
+            → (w : ℕ) × (runAll (clampedApart (x .guard) op dtype l t e) f ≡ put (r e) (at (run x f .files) (r (l .d))) (put (r t) w f))
+        clamped-elsewhere guard e in-e not-e ea eb = clamped.clamped-apart x legal op dtype l is t e in-t in-e adds not-e not-a not-b not-c ea eb f admitted guard
+
+        -- and in the SIMD line's place, with its d, they leave the files as it does, but for t, whether the guard holds or not
+        pub clamped-in-place : (t .0 ≡ l .d .0 → ⊥) → (l .d .0 ≡ l .a .0 → ⊥) → (l .d .0 ≡ l .b .0 → ⊥)
+            → (w : ℕ) × (runAll (clampedApart (x .guard) op dtype l t (l .d)) f ≡ put (r t) w (run x f .files))
+        clamped-in-place not-d da db = clamped.clamped-in-place x legal op dtype l is t in-t adds not-d not-a not-b not-c da db f admitted

@@ -30,7 +30,7 @@ use Rattle.laws.specs.OutcomeLaws.{executes}
 use Rattle.laws.specs.RunLaws.{sized, put-same, put-other}
 use Rattle.laws.specs.ExecutionLaws.{size-pos, low-lt, selected-part-replaced}
 use Rattle.laws.specs.LaneLaws.{selector-width, selector-part, part-number, laneZ, at-width, stepOf, step-add, past-unmasked, chain, chain-group, clamped-lane}
-use Rattle.laws.specs.TakenApartLaws.{scalar-writes, whole-number, scalar-legal, some-masked, put-put, put-past, put-sizes, fits, guard-range, registers-range, lane-legal, e-range, simd-holds}
+use Rattle.laws.specs.TakenApartLaws.{scalar-writes, whole-number, scalar-legal, some-masked, put-put, put-past, put-back, put-sizes, Guarded, all-skipped, fits, guard-range, registers-range, lane-legal, e-range, simd-holds, d-inside, simd-files, simd-skipped}
 
 module _ (x : Record) (legal : Legal x) (op : Arith) (dtype : VideoType) (l : Lanes) (is : x .instruction ≡ ArithmeticLanes (LaneArith.Scalar op) dtype true l) (t e : Word) (in-t : Inside (r t)) (in-e : Inside (r e)) where
   -- the two lines of lane i, the second of which takes c, and the lines from lane i on
@@ -57,20 +57,24 @@ module _ (x : Record) (legal : Legal x) (op : Arith) (dtype : VideoType) (l : La
       scalar-legal (x .guard) (computes Vadd dtype false) (record { atype = dtype; btype = dtype; form = Plain e; a = Part t (partSelector (l .width) i); b = Whole c })
       (guard-range x legal (computes op dtype true) l is) (rw (e-range x legal (computes op dtype true) l is e in-e, t-range, k))
 
-  clamped-from-legal : (n i : ℕ) (c : Word) → wordInFile c ≡ true → (y : Record) → Listed y (restFrom n i c) → Legal y
-  clamped-from-legal (suc n) i c k y m = go (maskAt (l .mask) i) m (λ d h. clamped-from-legal n (suc i) d h y)
+  clamped-from-guarded : (n i : ℕ) (c : Word) → wordInFile c ≡ true → (y : Record) → Listed y (restFrom n i c) → Guarded (x .guard) y
+  clamped-from-guarded (suc n) i c k y m = go (maskAt (l .mask) i) m (λ d h. clamped-from-guarded n (suc i) d h y)
     where
       go : (m : Bool) → Listed y (cond m (clampLine i ∷ partLine i c ∷ restFrom n (suc i) e) (restFrom n (suc i) c))
-          → ((d : Word) → wordInFile d ≡ true → Listed y (restFrom n (suc i) d) → Legal y)
-          → Legal y
-      go true (here q) next = rw q (clamp-legal i)
-      go true (later (here q)) next = rw q (part-legal i c k)
+          → ((d : Word) → wordInFile d ≡ true → Listed y (restFrom n (suc i) d) → Guarded (x .guard) y)
+          → Guarded (x .guard) y
+      go true (here q) next = rw q (clamp-legal i, refl)
+      go true (later (here q)) next = rw q (part-legal i c k, refl)
       go true (later (later q)) next = next e (e-range x legal (computes op dtype true) l is e in-e) q
       go false q next = next c k q
 
-  -- all of them are legal
-  pub clamped-legal : (y : Record) → Listed y (clampedApart (x .guard) op dtype l t e) → Legal y
-  clamped-legal y m = clamped-from-legal (lanes (l .width)) 0 (l .c) c-range y m
+  -- all of them are legal, and under the SIMD line's guard
+  pub clamped-guarded : (y : Record) → Listed y (clampedApart (x .guard) op dtype l t e) → Guarded (x .guard) y
+  clamped-guarded y m = clamped-from-guarded (lanes (l .width)) 0 (l .c) c-range y m
+
+  -- where the guard does not hold, each is skipped
+  pub clamped-skipped : (f : Files) → Admitted f → guardHolds (f .preds) (x .guard) ≡ false → runAll (clampedApart (x .guard) op dtype l t e) f ≡ f
+  clamped-skipped f admitted guard = all-skipped (x .guard) f admitted guard (clampedApart (x .guard) op dtype l t e) clamped-guarded
 
   module _ (g : Files) (ok : Admitted g) (holds : guardHolds (g .preds) (x .guard) ≡ true) (i : ℕ) (h : i < lanes (l .width)) where
     -- the lane's result, and what the first line leaves in t
@@ -195,3 +199,26 @@ module _ (x : Record) (legal : Legal x) (op : Arith) (dtype : VideoType) (l : La
                 ∙ ap (λ (v : ℕ). with-et v (all .0))
                 (chain-group l clampedResult (isSigned dtype) (at f (r (l .c))) (some .0) (some .1) (some .2) ∙ sym (simd-holds x legal (computes op dtype true) l is f admitted guard)),
           )
+
+-- in the SIMD line's own d, they do what the SIMD line does, but for t
+module _ (x : Record) (legal : Legal x) (op : Arith) (dtype : VideoType) (l : Lanes) (is : x .instruction ≡ ArithmeticLanes (LaneArith.Scalar op) dtype true l) (t : Word) (in-t : Inside (r t)) (adds : l .add ≡ true) (t-not-d : t .0 ≡ l .d .0 → ⊥) (t-not-a : t .0 ≡ l .a .0 → ⊥) (t-not-b : t .0 ≡ l .b .0 → ⊥) (t-not-c : t .0 ≡ l .c .0 → ⊥) (d-not-a : l .d .0 ≡ l .a .0 → ⊥) (d-not-b : l .d .0 ≡ l .b .0 → ⊥) (f : Files) (admitted : Admitted f) where
+  abbrev InPlace : Type 0
+  InPlace = (w : ℕ) × (runAll (clampedApart (x .guard) op dtype l t (l .d)) f ≡ put (r t) w (run x f .files))
+
+  pub clamped-in-place : InPlace
+  clamped-in-place = go (guardHolds (f .preds) (x .guard)) refl
+    where
+      in-d : Inside (r (l .d))
+      in-d = d-inside x legal (computes op dtype true) l is f admitted
+
+      go : (s : Bool) → guardHolds (f .preds) (x .guard) ≡ s → InPlace
+      go true s =
+          let k = clamped-apart x legal op dtype l is t (l .d) in-t in-d adds t-not-d t-not-a t-not-b t-not-c d-not-a d-not-b f admitted s in (
+            k .0,
+            k .1 ∙ put-past (l .d .0) (t .0) _ (k .0) f (λ q. t-not-d (sym q)) ∙ ap (put (r t) (k .0)) (sym (simd-files x legal (computes op dtype true) l is f admitted s)),
+          )
+      go false s = (
+        at f (r t),
+        clamped-skipped x legal op dtype l is t (l .d) in-t in-d f admitted s ∙ sym (put-back (t .0) f)
+            ∙ ap (put (r t) (at f (r t))) (sym (simd-skipped x legal (computes op dtype true) l is f admitted s)),
+      )

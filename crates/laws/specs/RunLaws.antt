@@ -98,7 +98,7 @@ others-stay x f q h =
 same-lengths : (f : Files) → SameLengths f f
 same-lengths f = record { words = refl; doubles = refl; preds = refl }
 
-pub put-lengths : (q : Place) (v : ℕ) (f : Files) → SameLengths f (put q v f)
+put-lengths : (q : Place) (v : ℕ) (f : Files) → SameLengths f (put q v f)
 put-lengths (word n) v f = record { words = length-set (f .words) n v; doubles = refl; preds = refl }
 put-lengths (double n) v f = record { words = refl; doubles = length-set (f .doubles) n v; preds = refl }
 put-lengths (pred n) v f = record { words = refl; doubles = refl; preds = length-set (f .preds) n v }

@@ -4,7 +4,7 @@ use native.Mathlib.Omega.{arith}
 use mathlib.Core.Path.{_≡_, refl, sym, ap, _∙_}
 use mathlib.Core.Bool.{Bool, true, false, _&&_, cond, and-eq-true-iff}
 use mathlib.Core.List.{List, [], _∷_}
-use lib.ListN.{set, length-set}
+use lib.ListN.{getD, set, length-set}
 use lib.Dec.{ltb}
 use lib.IntN.{ℤ, pos}
 use borrow.Author.Tests.{ltb-true, lt-ltb}
@@ -124,9 +124,32 @@ put-past m n u v f h = ap (λ (ws : List ℕ). files ws (f .doubles) (f .preds))
     past (w ∷ ws) (suc m) zero h = refl
     past (w ∷ ws) (suc m) (suc n) h = ap (_∷_ w) (past ws m n (λ e. h (ap suc e)))
 
+-- what is there already
+pub put-back : (n : ℕ) (f : Files) → put (word n) (at f (word n)) f ≡ f
+put-back n f = ap (λ (ws : List ℕ). files ws (f .doubles) (f .preds)) (back (f .words) n)
+  where
+    back : (ws : List ℕ) (n : ℕ) → set ws n (getD ws n 0) ≡ ws
+    back [] n = refl
+    back (w ∷ ws) zero = refl
+    back (w ∷ ws) (suc n) = ap (_∷_ w) (back ws n)
+
 pub put-sizes : (n v : ℕ) (f : Files) → sizesFit f ≡ true → sizesFit (put (word n) v f) ≡ true
 unfolding sizesFit
 put-sizes n v f e = rw (length-set (f .words) n v) e
+
+-- ==== lines under a guard g
+
+-- a legal line with that guard
+abbrev pub Guarded : Guard → Record → Type 0
+Guarded g y = Legal y × (y .guard ≡ g)
+
+-- where it does not hold, each is skipped
+pub all-skipped : (g : Guard) (f : Files) → Admitted f → guardHolds (f .preds) g ≡ false → (ys : List Record) → ((y : Record) → Listed y ys → Guarded g y) → runAll ys f ≡ f
+all-skipped g f admitted guard [] each = refl
+all-skipped g f admitted guard (y ∷ ys) each =
+    let k = each y (here refl) in
+    ap (λ q. runAll ys (q .files)) (skips y f (k .0) admitted (ap (guardHolds (f .preds)) (k .1) ∙ guard))
+    ∙ all-skipped g f admitted guard ys (λ z m. each z (later m))
 
 -- ==== a legal SIMD line
 
@@ -181,19 +204,19 @@ module _ (x : Record) (legal : Legal x) (o : Operation) (l : Lanes) (is : x .ins
     line-legal : (i : ℕ) (c : Word) → wordInFile c ≡ true → Legal (laneRecord (x .guard) o l i (laneForm l e i c))
     line-legal i c k = lane-legal i (laneForm l e i c) (form-range (l .add) i c k)
 
-    -- all of them are legal
-    lines-from-legal : (n i : ℕ) (c : Word) → wordInFile c ≡ true → (y : Record) → Listed y (linesFrom (x .guard) o l e n i c) → Legal y
-    lines-from-legal (suc n) i c k y m = go (maskAt (l .mask) i) m (λ d h. lines-from-legal n (suc i) d h y)
+    -- all of them are legal, and under the SIMD line's guard
+    lines-from-guarded : (n i : ℕ) (c : Word) → wordInFile c ≡ true → (y : Record) → Listed y (linesFrom (x .guard) o l e n i c) → Guarded (x .guard) y
+    lines-from-guarded (suc n) i c k y m = go (maskAt (l .mask) i) m (λ d h. lines-from-guarded n (suc i) d h y)
       where
         go : (m : Bool) → Listed y (cond m (laneRecord (x .guard) o l i (laneForm l e i c) ∷ linesFrom (x .guard) o l e n (suc i) e) (linesFrom (x .guard) o l e n (suc i) c))
-            → ((d : Word) → wordInFile d ≡ true → Listed y (linesFrom (x .guard) o l e n (suc i) d) → Legal y)
-            → Legal y
-        go true (here q) next = rw q (line-legal i c k)
+            → ((d : Word) → wordInFile d ≡ true → Listed y (linesFrom (x .guard) o l e n (suc i) d) → Guarded (x .guard) y)
+            → Guarded (x .guard) y
+        go true (here q) next = rw q (line-legal i c k, refl)
         go true (later q) next = next e e-range q
         go false q next = next c k q
 
-    pub lines-legal : (y : Record) → Listed y (takenApart (x .guard) o l e) → Legal y
-    lines-legal y m = lines-from-legal (lanes (l .width)) 0 (l .c) (registers-range .3) y m
+    pub lines-guarded : (y : Record) → Listed y (takenApart (x .guard) o l e) → Guarded (x .guard) y
+    lines-guarded y m = lines-from-guarded (lanes (l .width)) 0 (l .c) (registers-range .3) y m
 
   -- ==== on admitted files
 
@@ -269,20 +292,8 @@ module _ (x : Record) (legal : Legal x) (o : Operation) (l : Lanes) (is : x .ins
 
     module _ (e : Word) (inside : Inside (r e)) where
       -- where the guard does not hold, each is skipped
-      module _ (guard : guardHolds (f .preds) (x .guard) ≡ false) where
-        lines-from-skipped : (n i : ℕ) (c : Word) → wordInFile c ≡ true → runAll (linesFrom (x .guard) o l e n i c) f ≡ f
-        lines-from-skipped zero i c k = refl
-        lines-from-skipped (suc n) i c k = go (maskAt (l .mask) i) (λ d h. lines-from-skipped n (suc i) d h)
-          where
-            go : (m : Bool) → ((d : Word) → wordInFile d ≡ true → runAll (linesFrom (x .guard) o l e n (suc i) d) f ≡ f)
-                → runAll (cond m (laneRecord (x .guard) o l i (laneForm l e i c) ∷ linesFrom (x .guard) o l e n (suc i) e) (linesFrom (x .guard) o l e n (suc i) c)) f ≡ f
-            go true next =
-                ap (λ q. runAll (linesFrom (x .guard) o l e n (suc i) e) (q .files)) (skips (laneRecord (x .guard) o l i (laneForm l e i c)) f (line-legal e inside i c k) admitted guard)
-                ∙ next e (e-range e inside)
-            go false next = next c k
-
-        pub lines-skipped : runAll (takenApart (x .guard) o l e) f ≡ f
-        lines-skipped = lines-from-skipped (lanes (l .width)) 0 (l .c) (registers-range .3)
+      pub lines-skipped : guardHolds (f .preds) (x .guard) ≡ false → runAll (takenApart (x .guard) o l e) f ≡ f
+      lines-skipped guard = all-skipped (x .guard) f admitted guard (takenApart (x .guard) o l e) (lines-guarded e inside)
 
       -- `sat` with `add` clamps each lane at its own width, which no scalar line with `add` does
       module _ (one-line : saturates o && l .add ≡ false) where
@@ -374,21 +385,25 @@ module _ (x : Record) (legal : Legal x) (o : Operation) (l : Lanes) (is : x .ins
               ∙ ap with-e (chain-group l result (isSignedOf o) (at f (r (l .c))) (some .0) (some .1) (some .2) ∙ sym (simd-holds guard))
 
     -- in the SIMD line's own d, they do what the SIMD line does
-    pub in-its-place : saturates o && l .add ≡ false → (l .d .0 ≡ l .a .0 → ⊥) → (l .d .0 ≡ l .b .0 → ⊥) → runAll (takenApart (x .guard) o l (l .d)) f ≡ run x f .files
+
+    pub d-inside : Inside (r (l .d))
+    d-inside = ltb-true (l .d .0) wordCount (registers-range .0)
+
+    pub simd-files : guardHolds (f .preds) (x .guard) ≡ true → run x f .files ≡ put (r (l .d)) (at (run x f .files) (r (l .d))) f
     unfolding after
-    in-its-place one-line not-a not-b = go (guardHolds (f .preds) (x .guard)) refl
+    simd-files t =
+        ap (λ q. q .files) (executes x f legal admitted t) ∙ ap (λ (ws : List Write). putAll ws f) (ap (λ (i : Instruction). writes i f) is ∙ simd-writes o l f)
+        ∙ ap (λ (v : ℕ). put (r (l .d)) v f) (sym (simd-holds t))
+
+    pub simd-skipped : guardHolds (f .preds) (x .guard) ≡ false → run x f .files ≡ f
+    simd-skipped t = ap (λ q. q .files) (skips x f legal admitted t)
+
+    pub in-place : saturates o && l .add ≡ false → (l .d .0 ≡ l .a .0 → ⊥) → (l .d .0 ≡ l .b .0 → ⊥) → runAll (takenApart (x .guard) o l (l .d)) f ≡ run x f .files
+    in-place one-line not-a not-b = go (guardHolds (f .preds) (x .guard)) refl
       where
-        d-inside : Inside (r (l .d))
-        d-inside = ltb-true (l .d .0) wordCount (registers-range .0)
-
-        simd-files : guardHolds (f .preds) (x .guard) ≡ true → run x f .files ≡ put (r (l .d)) (at (run x f .files) (r (l .d))) f
-        simd-files t =
-            ap (λ q. q .files) (executes x f legal admitted t) ∙ ap (λ (ws : List Write). putAll ws f) (ap (λ (i : Instruction). writes i f) is ∙ simd-writes o l f)
-            ∙ ap (λ (v : ℕ). put (r (l .d)) v f) (sym (simd-holds t))
-
         go : (t : Bool) → guardHolds (f .preds) (x .guard) ≡ t → runAll (takenApart (x .guard) o l (l .d)) f ≡ run x f .files
         go true t = taken-apart (l .d) d-inside one-line t not-a not-b ∙ sym (simd-files t)
-        go false t = lines-skipped (l .d) d-inside t ∙ sym (ap (λ q. q .files) (skips x f legal admitted t))
+        go false t = lines-skipped (l .d) d-inside t ∙ sym (simd-skipped t)
 
 -- ==== vset as a whole register, and `sat` with `add`
 
