@@ -13,19 +13,18 @@ use Rattle.record.specs.Refusals.{Legal}
 use Rattle.record.specs.declared.Word.{Word}
 use Rattle.record.specs.declared.Arith.{Arith}
 use Rattle.record.specs.declared.Arith.the-variants.{Vadd}
-use Rattle.record.specs.declared.Selected.the-variants.{Whole, Part}
 use Rattle.record.specs.declared.LaneArith
 use Rattle.record.specs.declared.LaneArith.{LaneArith}
 use Rattle.record.specs.declared.VideoType.{VideoType}
 use Rattle.record.specs.declared.Lanes.{Lanes}
-use Rattle.record.specs.declared.Form.the-variants.{Plain, Merge}
+use Rattle.record.specs.declared.Form.the-variants.{Merge}
 use Rattle.record.specs.declared.Scalar.{Scalar}
 use Rattle.record.specs.declared.Instruction.the-variants.{ArithmeticLanes}
 use Rattle.record.specs.declared.Record.{Record}
 use Rattle.rules.specs.Numbers.{wordSize, laneSize, lanes, partAt, exactOf, isSigned, lowOf}
 use Rattle.rules.specs.Execution.{formOf, replaced, maskAt}
 use Rattle.rules.specs.Executing.{wordOf, put, after, Admitted, guardHolds, run}
-use Rattle.rules.specs.LaneScalars.{computes, partSelector, laneScalar, laneRecord, partAdded, clampedFrom, clampedApart, runAll}
+use Rattle.rules.specs.LaneScalars.{computes, partSelector, laneScalar, laneRecord, partScalar, partAdded, clampedFrom, clampedApart, runAll}
 use Rattle.laws.specs.OutcomeLaws.{executes}
 use Rattle.laws.specs.RunLaws.{sized, put-same, put-other}
 use Rattle.laws.specs.ExecutionLaws.{size-pos, low-lt, selected-part-replaced}
@@ -54,7 +53,7 @@ module _ (x : Record) (legal : Legal x) (op : Arith) (dtype : VideoType) (l : La
 
   part-legal : (i : ℕ) (c : Word) → wordInFile c ≡ true → Legal (partLine i c)
   part-legal i c k =
-      scalar-legal (x .guard) (computes Vadd dtype false) (record { atype = dtype; btype = dtype; form = Plain e; a = Part t (partSelector (l .width) i); b = Whole c })
+      scalar-legal (x .guard) (computes Vadd dtype false) (partScalar dtype t (partSelector (l .width) i) e c)
       (guard-range x legal (computes op dtype true) l is) (rw (e-range x legal (computes op dtype true) l is e in-e, t-range, k))
 
   clamped-from-guarded : (n i : ℕ) (c : Word) → wordInFile c ≡ true → (y : Record) → Listed y (restFrom n i c) → Guarded (x .guard) y
@@ -98,7 +97,7 @@ module _ (x : Record) (legal : Legal x) (op : Arith) (dtype : VideoType) (l : La
     part-run c k =
         ap (λ q. q .files) (executes (partLine i c) g (part-legal i c k) ok holds)
         ∙ rw
-        (scalar-writes (computes Vadd dtype false) (record { atype = dtype; btype = dtype; form = Plain e; a = Part t (partSelector (l .width) i); b = Whole c }) g, part-number dtype t (l .width) i (wordOf (g .words) t) h, whole-number dtype c (wordOf (g .words) c))
+        (scalar-writes (computes Vadd dtype false) (partScalar dtype t (partSelector (l .width) i) e c) g, part-number dtype t (l .width) i (wordOf (g .words) t) h, whole-number dtype c (wordOf (g .words) c))
 
   module _ (adds : l .add ≡ true) (t-not-e : t .0 ≡ e .0 → ⊥) (t-not-a : t .0 ≡ l .a .0 → ⊥) (t-not-b : t .0 ≡ l .b .0 → ⊥) (t-not-c : t .0 ≡ l .c .0 → ⊥) (e-not-a : e .0 ≡ l .a .0 → ⊥) (e-not-b : e .0 ≡ l .b .0 → ⊥) where
     -- both lines of a lane

@@ -114,9 +114,11 @@ takenApart g o l e = linesFrom g o l e (lanes (l .width)) 0 (l .c)
 
 -- `sat` with `add`: no scalar line does both at the lane's width, since with `add` d is bare, and `sat` clamps at 32 bits then. Two lines do: one clamps the lane into its part
 -- of a spare register t, and one adds that part, read by dtype, to c
+abbrev pub partScalar : VideoType → Word → Selector → Word → Word → Scalar
+partScalar dtype t sel e c = record { atype = dtype; btype = dtype; form = Plain e; a = Part t sel; b = Whole c }
+
 abbrev pub partAdded : Guard → VideoType → Word → Selector → Word → Word → Record
-partAdded g dtype t sel e c =
-    record { guard = g; instruction = Arithmetic Vadd dtype false (record { atype = dtype; btype = dtype; form = Plain e; a = Part t sel; b = Whole c }) }
+partAdded g dtype t sel e c = record { guard = g; instruction = Arithmetic Vadd dtype false (partScalar dtype t sel e c) }
 
 -- the two lines of each of the n lanes from lane i on, as above
 abbrev pub clampedFrom : Guard → Arith → VideoType → Lanes → Word → Word → ℕ → ℕ → Word → List Record
