@@ -18,10 +18,12 @@ use Rattle.record.specs.declared.Form.{Form}
 use Rattle.record.specs.declared.Form.the-variants.{Plain, Merge}
 use Rattle.record.specs.declared.Instruction.the-variants.{VsetLanes, ArithmeticLanes}
 use Rattle.record.specs.declared.Record.{Record}
-use Rattle.rules.specs.Numbers.{wordSize, laneSize, lanes, partAt, bit}
-use Rattle.rules.specs.Execution.{maskAt, laneHolds}
-use Rattle.rules.specs.Executing.{put, Admitted, guardHolds, run}
-use Rattle.rules.specs.LaneScalars.{Operation, compares, computes, simdOf, saturates, partSelector, laneRecord, maskedSum, extended, takenApart, clampedApart, runAll}
+use Rattle.rules.specs.Numbers.{wordSize, laneSize, lanes, partAt, lowOf, bit}
+use Rattle.rules.specs.Execution.{maskAt, laneHolds, count, laneResult}
+use Rattle.rules.specs.Executing.{put, Admitted, guardHolds, Answer, run}
+use Rattle.rules.specs.LaneScalars.{Operation, compares, computes, simdOf, saturates, partSelector, laneRecord, maskedSum, extended, takenApart, clampedApart, runAll, answersAll}
+use Rattle.laws.specs.LaneLaws as numbers
+use Rattle.laws.specs.LaneLines.{all-skipped}
 use Rattle.laws.specs.TakenApartLaws as laws
 use Rattle.laws.specs.ClampedLaws as clamped
 
@@ -33,7 +35,7 @@ pub every-but-the-average : (op : LaneArith) (dtype : VideoType) (sat : Bool) (l
 every-but-the-average (LaneArith.Scalar op) dtype sat l not-it = (computes op dtype sat, refl)
 every-but-the-average LaneArith.Vavrg dtype sat l not-it = absurd (not-it refl)
 
--- the average, vavrg2 and vavrg4, has no scalar form
+-- the average, vavrg2 and vavrg4, is none: scalar video has no such operation
 pub not-the-average : (o : Operation) (l k : Lanes) (dtype : VideoType) (sat : Bool) → simdOf o l ≡ ArithmeticLanes LaneArith.Vavrg dtype sat k → ⊥
 not-the-average (compares cmp) l k dtype sat e = let z : _≡_ {A = ℕ} 0 1 = cc in omega arith
 not-the-average (computes op t s) l k dtype sat e = let z : _≡_ {A = ℕ} 0 1 = cc in omega arith
@@ -44,6 +46,10 @@ sat-saturates op dtype sat = refl
 
 pub vset-does-not : (cmp : Cmp6) → saturates (compares cmp) ≡ false
 vset-does-not cmp = refl
+
+-- a sum over the masked lanes is that of the lanes that the mask names: of ones and zeros, the number of masked lanes that hold
+pub masked-sum-counts : (l : Lanes) (f : ℕ → Bool) → maskedSum l (λ i. bit (f i)) ≡ count (lanes (l .width)) (λ i. maskAt (l .mask) i && f i)
+masked-sum-counts l f = numbers.masked-sum-counts l f
 
 -- ==== x is a legal SIMD line. The scalar line of a lane is itself legal, with any word registers as its destination and its c
 
@@ -65,6 +71,21 @@ module _ (x : Record) (legal : Legal x) (l : Lanes) where
       pub lane-is-vset : l .add ≡ false → maskAt (l .mask) i ≡ true
           → partAt (laneSize (l .width)) (at (run x f .files) (r (l .d))) i ≡ at (run (laneRecord (x .guard) (compares cmp) l i (Plain d)) f .files) (r d)
       lane-is-vset plain m = laws.vset-lane x legal l f admitted guard cmp is i h d inside plain m
+
+    -- ---- T-01's
+
+    module _ (op : Arith) (dtype : VideoType) (i : ℕ) (h : i < lanes (l .width)) (d : Word) (inside : Inside (r d)) where
+      -- running the scalar line of a lane, without `sat`, gives the low 32 bits of the lane's exact result in its destination,
+      pub arithmetic-gives-lane : x .instruction ≡ simdOf (computes op dtype false) l
+          → at (run (laneRecord (x .guard) (computes op dtype false) l i (Plain d)) f .files) (r d)
+          ≡ lowOf wordSize (laneResult (LaneArith.Scalar op) dtype false l (at f (r (l .a))) (at f (r (l .b))) i)
+      arithmetic-gives-lane is = laws.plain-holds x legal (computes op dtype false) l is f admitted guard i h d inside refl
+
+      -- and with the selector of the lane's own part on d, that part is the low bits of the lane's result, clamped if `sat`
+      pub part-gives-lane : (sat : Bool) → x .instruction ≡ simdOf (computes op dtype sat) l → (c : Word) → Inside (r c)
+          → partAt (laneSize (l .width)) (at (run (laneRecord (x .guard) (computes op dtype sat) l i (Merge d (partSelector (l .width) i) c)) f .files) (r d)) i
+          ≡ lowOf (laneSize (l .width)) (laneResult (LaneArith.Scalar op) dtype sat l (at f (r (l .a))) (at f (r (l .b))) i)
+      part-gives-lane sat is c in-c = laws.merge-holds x legal (computes op dtype sat) l is f admitted guard i h d inside c in-c
 
     -- ---- all but the average
 
@@ -95,14 +116,17 @@ module _ (x : Record) (legal : Legal x) (l : Lanes) where
   -- ==== a technician may replace the SIMD line by its scalar lines, one after another. Without `sat` or without `add`, each lane has one:
 
   module _ (o : Operation) (is : x .instruction ≡ simdOf o l) where
-    -- all of them are legal, and under the SIMD line's guard,
+    -- all of them are legal, under the SIMD line's guard,
     pub lines-legal : (e : Word) → Inside (r e) → (y : Record) → Listed y (takenApart (x .guard) o l e) → Legal y × (y .guard ≡ x .guard)
-    lines-legal e inside y m = laws.lines-guarded x legal o l is e inside y m
+    lines-legal e inside y m = let k = laws.lines-scalar x legal o l is e inside y m in (k .legal, k .guarded)
 
     module _ (f : Files) (admitted : Admitted f) where
-      -- so where it does not hold, all of them are skipped, as the SIMD line is.
+      -- and answer as it does: done, or skipped where the guard does not hold, and then they move nothing.
+      pub lines-answer : (e : Word) → Inside (r e) → (a : Answer) → Listed a (answersAll (takenApart (x .guard) o l e) f) → a ≡ run x f .answer
+      lines-answer e inside a m = laws.lines-answer x legal o l is f admitted (takenApart (x .guard) o l e) (laws.lines-scalar x legal o l is e inside) a m
+
       pub lines-skipped : guardHolds (f .preds) (x .guard) ≡ false → (e : Word) → Inside (r e) → runAll (takenApart (x .guard) o l e) f ≡ f
-      lines-skipped guard e inside = laws.lines-skipped x legal o l is f admitted e inside guard
+      lines-skipped guard e inside = all-skipped (x .guard) (takenApart (x .guard) o l e) (laws.lines-scalar x legal o l is e inside) f admitted guard
 
       module _ (one-line : saturates o && l .add ≡ false) where
         -- Where it holds, they leave in e, a register that is neither a nor b, what the SIMD line leaves in d, and move nothing else,
@@ -110,29 +134,33 @@ module _ (x : Record) (legal : Legal x) (l : Lanes) where
             → runAll (takenApart (x .guard) o l e) f ≡ put (r e) (at (run x f .files) (r (l .d))) f
         replaced-elsewhere guard e inside not-a not-b = laws.taken-apart x legal o l is f admitted e inside one-line guard not-a not-b
 
-        -- and in the SIMD line's place, with its d, they leave the files as it does, whether the guard holds or not
+        -- and in the SIMD line's place, where its d is neither a nor b, they leave the files as it does, whether the guard holds or not
         pub replaced-in-place : (l .d .0 ≡ l .a .0 → ⊥) → (l .d .0 ≡ l .b .0 → ⊥) → runAll (takenApart (x .guard) o l (l .d)) f ≡ run x f .files
         replaced-in-place not-a not-b = laws.in-place x legal o l is f admitted one-line not-a not-b
 
-  -- With `sat` and `add` each lane has two, by way of a spare register t, which is none of the registers that the lines read or leave their result in:
+  -- With `sat` and `add` each lane has two, by way of a spare register t, which is none of a, b, c and the register that gets the result:
 
   module _ (op : Arith) (dtype : VideoType) (is : x .instruction ≡ simdOf (computes op dtype true) l) (t : Word) (in-t : Inside (r t)) where
-    -- all of them are legal, and under the SIMD line's guard,
-    pub clamped-lines-legal : (e : Word) → Inside (r e) → (y : Record) → Listed y (clampedApart (x .guard) op dtype l t e) → Legal y × (y .guard ≡ x .guard)
-    clamped-lines-legal e in-e y m = clamped.clamped-guarded x legal op dtype l is t e in-t in-e y m
+    -- all of them are legal, under the SIMD line's guard,
+    pub clamped-legal : (e : Word) → Inside (r e) → (y : Record) → Listed y (clampedApart (x .guard) op dtype l t e) → Legal y × (y .guard ≡ x .guard)
+    clamped-legal e in-e y m = let k = clamped.clamped-scalar x legal op dtype l is t e in-t in-e y m in (k .legal, k .guarded)
 
     module _ (f : Files) (admitted : Admitted f) where
-      -- so where it does not hold, all of them are skipped.
-      pub clamped-lines-skipped : guardHolds (f .preds) (x .guard) ≡ false → (e : Word) → Inside (r e) → runAll (clampedApart (x .guard) op dtype l t e) f ≡ f
-      clamped-lines-skipped guard e in-e = clamped.clamped-skipped x legal op dtype l is t e in-t in-e f admitted guard
+      -- and answer as it does, and where the guard does not hold they move nothing.
+      pub clamped-answer : (e : Word) → Inside (r e) → (a : Answer) → Listed a (answersAll (clampedApart (x .guard) op dtype l t e) f) → a ≡ run x f .answer
+      clamped-answer e in-e a m =
+          laws.lines-answer x legal (computes op dtype true) l is f admitted (clampedApart (x .guard) op dtype l t e) (clamped.clamped-scalar x legal op dtype l is t e in-t in-e) a m
+
+      pub clamped-skipped : guardHolds (f .preds) (x .guard) ≡ false → (e : Word) → Inside (r e) → runAll (clampedApart (x .guard) op dtype l t e) f ≡ f
+      clamped-skipped guard e in-e = all-skipped (x .guard) (clampedApart (x .guard) op dtype l t e) (clamped.clamped-scalar x legal op dtype l is t e in-t in-e) f admitted guard
 
       module _ (adds : l .add ≡ true) (not-a : t .0 ≡ l .a .0 → ⊥) (not-b : t .0 ≡ l .b .0 → ⊥) (not-c : t .0 ≡ l .c .0 → ⊥) where
-        -- Where it holds, they leave in e what the SIMD line leaves in d, something in t, and move nothing else, where e is neither a nor b,
+        -- Where it holds, they leave in e, which is neither a nor b, what the SIMD line leaves in d, something in t, and move nothing else,
         pub clamped-elsewhere : guardHolds (f .preds) (x .guard) ≡ true → (e : Word) → Inside (r e) → (t .0 ≡ e .0 → ⊥) → (e .0 ≡ l .a .0 → ⊥) → (e .0 ≡ l .b .0 → ⊥)
             → (w : ℕ) × (runAll (clampedApart (x .guard) op dtype l t e) f ≡ put (r e) (at (run x f .files) (r (l .d))) (put (r t) w f))
         clamped-elsewhere guard e in-e not-e ea eb = clamped.clamped-apart x legal op dtype l is t e in-t in-e adds not-e not-a not-b not-c ea eb f admitted guard
 
-        -- and in the SIMD line's place, with its d, they leave the files as it does, but for t, whether the guard holds or not
+        -- and in the SIMD line's place, where its d is neither a nor b, they leave the files as it does, but for t, whether the guard holds or not
         pub clamped-in-place : (t .0 ≡ l .d .0 → ⊥) → (l .d .0 ≡ l .a .0 → ⊥) → (l .d .0 ≡ l .b .0 → ⊥)
             → (w : ℕ) × (runAll (clampedApart (x .guard) op dtype l t (l .d)) f ≡ put (r t) w (run x f .files))
         clamped-in-place not-d da db = clamped.clamped-in-place x legal op dtype l is t in-t adds not-d not-a not-b not-c da db f admitted

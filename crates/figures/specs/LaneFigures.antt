@@ -18,7 +18,7 @@ use Rattle.record.specs.declared.VideoType.{VideoType}
 use Rattle.record.specs.declared.VideoType.the-variants.{U32, S32}
 use Rattle.record.specs.declared.Cmp6.{Cmp6}
 use Rattle.record.specs.declared.Cmp6.the-variants.{Lt, Ge}
-use Rattle.record.specs.declared.Arith.the-variants.{Vadd, Vsub}
+use Rattle.record.specs.declared.Arith.the-variants.{Vadd, Vsub, Vmin}
 use Rattle.record.specs.declared.Guard.the-variants.{Always}
 use Rattle.record.specs.declared.LaneWidth.{LaneWidth}
 use Rattle.record.specs.declared.LaneWidth.the-variants.{Half, Byte}
@@ -28,9 +28,8 @@ use Rattle.record.specs.declared.Lanes.{Lanes}
 use Rattle.record.specs.declared.Selector.the-variants.{B0, B1, B3}
 use Rattle.record.specs.declared.Selected.{Selected}
 use Rattle.record.specs.declared.Selected.the-variants.{Whole, Part}
-use Rattle.record.specs.declared.Op2.the-variants.{Add}
 use Rattle.record.specs.declared.Form.{Form}
-use Rattle.record.specs.declared.Form.the-variants.{Plain, Merge, Combine}
+use Rattle.record.specs.declared.Form.the-variants.{Plain, Merge}
 use Rattle.record.specs.declared.Scalar.{Scalar}
 use Rattle.record.specs.declared.Record.{Record}
 use Rattle.rules.specs.Numbers.{laneSize, lanes, partAt, exactOf, holdsZ}
@@ -152,6 +151,9 @@ rights =
     ∷ "vsub.u32.u32.u32.add %r4, %r0.b2, %r1.b2, %r4;"
     ∷ "vsub.u32.u32.u32.add %r4, %r0.b3, %r1.b3, %r4;" ∷ [])
     0 0x01010101 0x10 0x0000000C
+    -- halves: -1 by a's type against FFFF by b's, and -32768 against 1
+    ∷ right (computes Vmin U32 false) (group Half S32 U32 true (fullMask Half) (digits 0 0 1 2) (defaultB Half)) "vmin2.u32.s32.u32.add %r3, %r0.h12, %r1, %r2;"
+    ("vmin.u32.s32.u32.add %r4, %r1.h0, %r1.h0, %r2;" ∷ "vmin.u32.s32.u32.add %r4, %r0.h1, %r1.h1, %r4;" ∷ []) 0x80000005 0x0001FFFF 0x10 0xFFFF800F
     -- `sat` with `add`: a lane is clamped in its own part of %r5, and that part is added by dtype
     ∷ pair (computes Vsub S32 true) (bytesOf true (mask true false false true)) "vsub4.s32.u32.u32.sat.add %r3.b30, %r0, %r1, %r2;"
     ("vsub.s32.u32.u32.sat %r5.b0, %r0.b0, %r1.b0, %r5;"
@@ -179,13 +181,16 @@ wrongs =
     1 2 0 0 1
     -- the leftmost digit names lane 0
     ∷ pair (compares Lt) (group Byte U32 U32 false (mask false false false true) (digits 0 1 2 3) (defaultB Byte)) "vset4.u32.u32.lt %r3.b0, %r0.b0123, %r1, %r2;"
-    ("vset.u32.u32.lt %r4.b0, %r0.b0, %r1.b0, %r2;" ∷ []) (scalar (compares Lt) U32 U32 (Merge e B0 c) (Part a B0) (Part b B0) ∷ []) e
-    0x05000001 2 0 0 1
+    ("vset.u32.u32.lt %r4.b0, %r0.b0, %r1.b3, %r2;" ∷ []) (scalar (compares Lt) U32 U32 (Merge e B0 c) (Part a B0) (Part b B3) ∷ []) e
+    0x05000001 0x02000002 0 0 1
     -- lanes that the mask does not name are added
     ∷ pair (compares Lt) (bytesOf true (mask false false false true)) "vset4.u32.u32.lt.add %r3.b0, %r0, %r1, %r2;"
-    ("vset.u32.u32.lt.add %r4, %r0.b0, %r1.b0, %r2;" ∷ "vset.u32.u32.lt.add %r4, %r0.b1, %r1.b1, %r4;" ∷ [])
-    (scalar (compares Lt) U32 U32 (Combine Add e c) (Part a B0) (Part b B0) ∷ scalar (compares Lt) U32 U32 (Combine Add e e) (Part a B1) (Part b B1) ∷ []) e
-    0 0x01010101 0 1 2
+    ("vset.u32.u32.lt.add %r4, %r0.b0, %r1.b0, %r2;"
+    ∷ "vset.u32.u32.lt.add %r4, %r0.b1, %r1.b1, %r4;"
+    ∷ "vset.u32.u32.lt.add %r4, %r0.b2, %r1.b2, %r4;"
+    ∷ "vset.u32.u32.lt.add %r4, %r0.b3, %r1.b3, %r4;" ∷ [])
+    (takenApart Always (compares Lt) (bytesOf true (fullMask Byte)) e) e
+    0 0x01010101 0 1 4
     -- each line takes c
     ∷ pair (compares Lt) (bytesOf false (mask false false true true)) "vset4.u32.u32.lt %r3.b10, %r0, %r1, %r2;"
     ("vset.u32.u32.lt %r4.b0, %r0.b0, %r1.b0, %r2;" ∷ "vset.u32.u32.lt %r4.b1, %r0.b1, %r1.b1, %r2;" ∷ [])

@@ -1,14 +1,12 @@
 -- T-14, `sat` with `add`: two scalar lines a lane, by a spare register, do what the SIMD line does. Assumes nothing.
-use Prim.Native.Nat.{ℕ, zero, suc, _+_, _<_, _≤_}
+use Prim.Native.Nat.{ℕ, _<_}
 use native.Mathlib.Omega.{arith}
-use mathlib.Core.Path.{_≡_, refl, sym, ap, ap₂, _∙_}
-use mathlib.Core.Bool.{Bool, true, false, cond}
-use mathlib.Core.List.{List, _∷_}
+use mathlib.Core.Path.{_≡_, refl, sym, ap, ap₂, subst, _∙_}
+use mathlib.Core.Bool.{Bool, true, false}
 use lib.IntN.{ℤ, _+ℤ_}
-use borrow.Author.Tests.{lt-ltb}
 use Rattle.signs.specs.Lists.{Listed}
 use Rattle.signs.specs.Lists.Listed.{here, later}
-use Rattle.record.specs.Registers.{Files, files, r, numberOf, at, Inside, wordInFile, wordCount}
+use Rattle.record.specs.Registers.{Files, files, r, numberOf, at, Inside, wordInFile}
 use Rattle.record.specs.Refusals.{Legal}
 use Rattle.record.specs.declared.Word.{Word}
 use Rattle.record.specs.declared.Arith.{Arith}
@@ -22,58 +20,44 @@ use Rattle.record.specs.declared.Scalar.{Scalar}
 use Rattle.record.specs.declared.Instruction.the-variants.{ArithmeticLanes}
 use Rattle.record.specs.declared.Record.{Record}
 use Rattle.rules.specs.Numbers.{wordSize, laneSize, lanes, partAt, exactOf, isSigned, lowOf}
-use Rattle.rules.specs.Execution.{formOf, replaced, maskAt}
+use Rattle.rules.specs.Execution.{formOf, replaced}
 use Rattle.rules.specs.Executing.{wordOf, put, after, Admitted, guardHolds, run}
-use Rattle.rules.specs.LaneScalars.{computes, partSelector, laneScalar, laneRecord, partScalar, partAdded, clampedFrom, clampedApart, runAll}
+use Rattle.rules.specs.LaneScalars.{computes, scalarOf, partSelector, laneScalar, laneRecord, partScalar, clampedLines, clampedApart, runAll}
 use Rattle.laws.specs.OutcomeLaws.{executes}
 use Rattle.laws.specs.RunLaws.{sized, put-same, put-other}
 use Rattle.laws.specs.ExecutionLaws.{size-pos, low-lt, selected-part-replaced}
-use Rattle.laws.specs.LaneLaws.{selector-width, selector-part, part-number, laneZ, at-width, stepOf, step-add, past-unmasked, chain, chain-group, clamped-lane}
-use Rattle.laws.specs.TakenApartLaws.{scalar-writes, whole-number, scalar-legal, some-masked, put-put, put-past, put-back, put-sizes, Guarded, all-skipped, fits, guard-range, registers-range, lane-legal, e-range, simd-holds, d-inside, simd-files, simd-skipped}
+use Rattle.laws.specs.LaneLaws.{selector-width, selector-part, part-number, laneZ, at-width, stepOf, step-add, clamped-lane}
+use Rattle.laws.specs.LaneLines.{word-range, put-put, put-past, put-back, put-admitted, scalar-writes, ScalarLine, all-skipped, lanes-each, lanes-left}
+use Rattle.laws.specs.TakenApartLaws.{whole-number, scalar-fits, fits, guard-range, registers-range, lane-legal, simd-holds, d-inside, simd-files, simd-skipped}
 
 module _ (x : Record) (legal : Legal x) (op : Arith) (dtype : VideoType) (l : Lanes) (is : x .instruction ≡ ArithmeticLanes (LaneArith.Scalar op) dtype true l) (t e : Word) (in-t : Inside (r t)) (in-e : Inside (r e)) where
-  -- the two lines of lane i, the second of which takes c, and the lines from lane i on
+  -- the two lines of lane i, the second of which takes c
   abbrev clampLine : ℕ → Record
   clampLine i = laneRecord (x .guard) (computes op dtype true) l i (Merge t (partSelector (l .width) i) t)
 
   abbrev partLine : ℕ → Word → Record
-  partLine i c = partAdded (x .guard) dtype t (partSelector (l .width) i) e c
-
-  abbrev restFrom : ℕ → ℕ → Word → List Record
-  restFrom n i c = clampedFrom (x .guard) op dtype l t e n i c
-
-  t-range : wordInFile t ≡ true
-  t-range = lt-ltb (t .0) wordCount in-t
+  partLine i c = record { guard = x .guard; instruction = scalarOf (computes Vadd dtype false) (partScalar dtype t (partSelector (l .width) i) e c) }
 
   c-range : wordInFile (l .c) ≡ true
   c-range = registers-range x legal (computes op dtype true) l is .3
 
   clamp-legal : (i : ℕ) → Legal (clampLine i)
-  clamp-legal i = lane-legal x legal (computes op dtype true) l is i (Merge t (partSelector (l .width) i) t) (rw t-range)
+  clamp-legal i = lane-legal x legal (computes op dtype true) l is i (Merge t (partSelector (l .width) i) t) (rw (word-range t in-t))
 
   part-legal : (i : ℕ) (c : Word) → wordInFile c ≡ true → Legal (partLine i c)
   part-legal i c k =
-      scalar-legal (x .guard) (computes Vadd dtype false) (partScalar dtype t (partSelector (l .width) i) e c)
-      (guard-range x legal (computes op dtype true) l is) (rw (e-range x legal (computes op dtype true) l is e in-e, t-range, k))
+      scalar-fits (x .guard) (computes Vadd dtype false) (partScalar dtype t (partSelector (l .width) i) e c) (guard-range x legal (computes op dtype true) l is)
+      (rw (word-range e in-e, word-range t in-t, k))
 
-  clamped-from-guarded : (n i : ℕ) (c : Word) → wordInFile c ≡ true → (y : Record) → Listed y (restFrom n i c) → Guarded (x .guard) y
-  clamped-from-guarded (suc n) i c k y m = go (maskAt (l .mask) i) m (λ d h. clamped-from-guarded n (suc i) d h y)
+  -- all of them are legal lines of scalar video, under the SIMD line's guard
+  pub clamped-scalar : (y : Record) → Listed y (clampedApart (x .guard) op dtype l t e) → ScalarLine (x .guard) y
+  clamped-scalar y m = lanes-each (clampedLines (x .guard) op dtype l t e) l e (ScalarLine (x .guard)) (word-range e in-e) each c-range y m
     where
-      go : (m : Bool) → Listed y (cond m (clampLine i ∷ partLine i c ∷ restFrom n (suc i) e) (restFrom n (suc i) c))
-          → ((d : Word) → wordInFile d ≡ true → Listed y (restFrom n (suc i) d) → Guarded (x .guard) y)
-          → Guarded (x .guard) y
-      go true (here q) next = rw q (clamp-legal i, refl)
-      go true (later (here q)) next = rw q (part-legal i c k, refl)
-      go true (later (later q)) next = next e (e-range x legal (computes op dtype true) l is e in-e) q
-      go false q next = next c k q
-
-  -- all of them are legal, and under the SIMD line's guard
-  pub clamped-guarded : (y : Record) → Listed y (clampedApart (x .guard) op dtype l t e) → Guarded (x .guard) y
-  clamped-guarded y m = clamped-from-guarded (lanes (l .width)) 0 (l .c) c-range y m
-
-  -- where the guard does not hold, each is skipped
-  pub clamped-skipped : (f : Files) → Admitted f → guardHolds (f .preds) (x .guard) ≡ false → runAll (clampedApart (x .guard) op dtype l t e) f ≡ f
-  clamped-skipped f admitted guard = all-skipped (x .guard) f admitted guard (clampedApart (x .guard) op dtype l t e) clamped-guarded
+      each : (i : ℕ) (c : Word) → wordInFile c ≡ true → (y : Record) → Listed y (clampedLines (x .guard) op dtype l t e i c) → ScalarLine (x .guard) y
+      each i c k y (here q) =
+          rw q (record { legal = clamp-legal i; guarded = refl; o = computes op dtype true; s = laneScalar l i (Merge t (partSelector (l .width) i) t); scalar = refl })
+      each i c k y (later (here q)) =
+          rw q (record { legal = part-legal i c k; guarded = refl; o = computes Vadd dtype false; s = partScalar dtype t (partSelector (l .width) i) e c; scalar = refl })
 
   module _ (g : Files) (ok : Admitted g) (holds : guardHolds (g .preds) (x .guard) ≡ true) (i : ℕ) (h : i < lanes (l .width)) where
     -- the lane's result, and what the first line leaves in t
@@ -108,7 +92,7 @@ module _ (x : Record) (legal : Legal x) (op : Arith) (dtype : VideoType) (l : La
         let w = clampedWord g ok holds i h in
         let z = resultIn g ok holds i h in
         ap (λ q. run (partLine i c) q .files) (clamp-run g ok holds i h)
-        ∙ part-run (put (r t) w g) (record { sizes = put-sizes (t .0) w g (ok .sizes); bits = ok .bits }) holds i h c k
+        ∙ part-run (put (r t) w g) (put-admitted (t .0) w g ok) holds i h c k
         ∙ ap₂
         (λ (u v : ℕ). put (r e) (lowOf wordSize (exactOf (isSigned dtype) (laneSize (l .width)) (partAt (laneSize (l .width)) u i) +ℤ exactOf (isSigned dtype) wordSize v)) (put (r t) w g))
         (put-same (r t) w g (sized g (ok .sizes)) in-t) (put-other (r c) (r t) w g (λ q. t-not (ap numberOf q)))
@@ -124,28 +108,25 @@ module _ (x : Record) (legal : Legal x) (op : Arith) (dtype : VideoType) (l : La
       with-et v w = put (r e) v (put (r t) w f)
 
       et-admitted : (v w : ℕ) → Admitted (with-et v w)
-      et-admitted v w = record { sizes = put-sizes (e .0) v (put (r t) w f) (put-sizes (t .0) w f (admitted .sizes)); bits = admitted .bits }
+      et-admitted v w = put-admitted (e .0) v (put (r t) w f) (put-admitted (t .0) w f admitted)
 
       et-reads : (v w : ℕ) (q : Word) → (t .0 ≡ q .0 → ⊥) → (e .0 ≡ q .0 → ⊥) → at (with-et v w) (r q) ≡ at f (r q)
       et-reads v w q h k = put-other (r q) (r e) v (put (r t) w f) (λ s. k (ap numberOf s)) ∙ put-other (r q) (r t) w f (λ s. h (ap numberOf s))
 
       et-reads-e : (v w : ℕ) → at (with-et v w) (r e) ≡ v
-      et-reads-e v w = put-same (r e) v (put (r t) w f) (sized (put (r t) w f) (put-sizes (t .0) w f (admitted .sizes))) in-e
+      et-reads-e v w = put-same (r e) v (put (r t) w f) (sized (put (r t) w f) (put-admitted (t .0) w f admitted .sizes)) in-e
 
       -- what was in e and t before makes no difference
       et-again : (v w y u : ℕ) → put (r e) y (put (r t) u (with-et v w)) ≡ with-et y u
       et-again v w y u =
           ap (put (r e) y) (put-past (t .0) (e .0) u v (put (r t) w f) t-not-e ∙ ap (put (r e) v) (put-put (t .0) w u f)) ∙ put-put (e .0) v y (put (r t) u f)
 
-      -- the lanes' results, and the first n of them from lane i on, on top of v
+      -- the lanes' results, and one more of them on top of v
       abbrev clampedResult : ℕ → ℤ
       clampedResult i = laneZ (computes op dtype true) l (at f (r (l .a))) (at f (r (l .b))) i
 
       abbrev clampedStep : ℕ → ℕ → ℕ
       clampedStep i v = stepOf l (isSigned dtype) i v (clampedResult i)
-
-      abbrev clampedChain : ℕ → ℕ → ℕ → ℕ
-      clampedChain n i v = chain l clampedResult (isSigned dtype) n i v
 
       -- v in e, and something in t
       abbrev Left : ℕ → Files → Type 0
@@ -161,43 +142,16 @@ module _ (x : Record) (legal : Legal x) (op : Arith) (dtype : VideoType) (l : La
           let u = clampedWord (with-et v w) ok guard i h in (
             u,
             ap (λ (y : Files). run (partLine i e) (run (clampLine i) y .files) .files) (k .1)
-                ∙ two-run (with-et v w) ok guard i h e (e-range x legal (computes op dtype true) l is e in-e) t-not-e
+                ∙ two-run (with-et v w) ok guard i h e (word-range e in-e) t-not-e
                 ∙ et-again v w _ u
                 ∙ ap (λ (y : ℕ). with-et y u) (rw (et-reads-e v w, et-reads v w (l .a) t-not-a e-not-a, et-reads v w (l .b) t-not-b e-not-b)),
           )
 
-      later-twos : (n i v : ℕ) (g : Files) → n + i ≡ lanes (l .width) → Left v g → Left (clampedChain n i v) (runAll (restFrom n i e) g)
-      later-twos zero i v g q k = k
-      later-twos (suc n) i v g q k = go (maskAt (l .mask) i) (λ u y m. later-twos n (suc i) u y (omega arith) m)
-        where
-          go : (m : Bool) → ((u : ℕ) (y : Files) → Left u y → Left (clampedChain n (suc i) u) (runAll (restFrom n (suc i) e) y))
-              → Left (cond m (clampedChain n (suc i) (clampedStep i v)) (clampedChain n (suc i) v))
-              (runAll (cond m (clampLine i ∷ partLine i e ∷ restFrom n (suc i) e) (restFrom n (suc i) e)) g)
-          go true next = next (clampedStep i v) (run (partLine i e) (run (clampLine i) g .files) .files) (later-two i v g (omega arith) k)
-          go false next = next v g k
-
-      all-twos : (n i j : ℕ) → n + i ≡ lanes (l .width) → i ≤ j → j < n + i → maskAt (l .mask) j ≡ true
-          → Left (clampedChain n i (at f (r (l .c)))) (runAll (restFrom n i (l .c)) f)
-      all-twos zero i j q p k m = absurd (omega arith)
-      all-twos (suc n) i j q p k m = go (maskAt (l .mask) i) refl (λ h. all-twos n (suc i) j (omega arith) h (omega arith) m)
-        where
-          go : (s : Bool) → maskAt (l .mask) i ≡ s → (suc i ≤ j → Left (clampedChain n (suc i) (at f (r (l .c)))) (runAll (restFrom n (suc i) (l .c)) f))
-              → Left (cond s (clampedChain n (suc i) (clampedStep i (at f (r (l .c))))) (clampedChain n (suc i) (at f (r (l .c)))))
-              (runAll (cond s (clampLine i ∷ partLine i (l .c) ∷ restFrom n (suc i) e) (restFrom n (suc i) (l .c))) f)
-          go true s next =
-              later-twos n (suc i) (clampedStep i (at f (r (l .c)))) (run (partLine i (l .c)) (run (clampLine i) f .files) .files) (omega arith) (first-two i (omega arith))
-          go false s next = next (past-unmasked (l .mask) i j p s m)
-
       -- the lines leave in e what the SIMD line leaves in d, something in t, and move nothing else
-      pub clamped-apart : (w : ℕ) × (runAll (clampedApart (x .guard) op dtype l t e) f ≡ put (r e) (at (run x f .files) (r (l .d))) (put (r t) w f))
+      pub clamped-apart : Left (at (run x f .files) (r (l .d))) (runAll (clampedApart (x .guard) op dtype l t e) f)
       clamped-apart =
-          let some = some-masked (l .width) (l .mask) (fits x legal (computes op dtype true) l is .0) in
-          let all = all-twos (lanes (l .width)) 0 (some .0) (omega arith) (omega arith) (omega (arith, some .1)) (some .2) in (
-            all .0,
-            all .1
-                ∙ ap (λ (v : ℕ). with-et v (all .0))
-                (chain-group l clampedResult (isSigned dtype) (at f (r (l .c))) (some .0) (some .1) (some .2) ∙ sym (simd-holds x legal (computes op dtype true) l is f admitted guard)),
-          )
+          subst (λ (v : ℕ). Left v (runAll (clampedApart (x .guard) op dtype l t e) f)) (sym (simd-holds x legal (computes op dtype true) l is f admitted guard))
+          (lanes-left (clampedLines (x .guard) op dtype l t e) l e clampedResult (isSigned dtype) f Left first-two later-two (fits x legal (computes op dtype true) l is .0))
 
 -- in the SIMD line's own d, they do what the SIMD line does, but for t
 module _ (x : Record) (legal : Legal x) (op : Arith) (dtype : VideoType) (l : Lanes) (is : x .instruction ≡ ArithmeticLanes (LaneArith.Scalar op) dtype true l) (t : Word) (in-t : Inside (r t)) (adds : l .add ≡ true) (t-not-d : t .0 ≡ l .d .0 → ⊥) (t-not-a : t .0 ≡ l .a .0 → ⊥) (t-not-b : t .0 ≡ l .b .0 → ⊥) (t-not-c : t .0 ≡ l .c .0 → ⊥) (d-not-a : l .d .0 ≡ l .a .0 → ⊥) (d-not-b : l .d .0 ≡ l .b .0 → ⊥) (f : Files) (admitted : Admitted f) where
@@ -218,6 +172,6 @@ module _ (x : Record) (legal : Legal x) (op : Arith) (dtype : VideoType) (l : La
           )
       go false s = (
         at f (r t),
-        clamped-skipped x legal op dtype l is t (l .d) in-t in-d f admitted s ∙ sym (put-back (t .0) f)
+        all-skipped (x .guard) (clampedApart (x .guard) op dtype l t (l .d)) (clamped-scalar x legal op dtype l is t (l .d) in-t in-d) f admitted s ∙ sym (put-back (t .0) f)
             ∙ ap (put (r t) (at f (r t))) (sym (simd-skipped x legal (computes op dtype true) l is f admitted s)),
       )

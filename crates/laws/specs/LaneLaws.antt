@@ -26,9 +26,10 @@ use Rattle.record.specs.declared.Form.{Form}
 use Rattle.record.specs.declared.Form.the-variants.{Merge, Combine}
 use Rattle.record.specs.declared.Scalar.{Scalar}
 use Rattle.rules.specs.Numbers.{wordSize, laneSize, lanes, partAt, joined, exactOf, isSigned, lowOf, minZ, bit, holdsZ}
-use Rattle.rules.specs.Execution.{selectorWidth, selectorPart, selectedOf, arithZ, lowestZ, highestZ, clampedOf, formOf, replaced, numbered, digitAt, maskAt, mergedLane, merged, laneNumber, laneHolds, laneResult, sumZ, groupOf}
+use Rattle.rules.specs.Execution.{selectorWidth, selectorPart, selectedOf, arithZ, lowestZ, highestZ, clampedOf, formOf, replaced, numbered, digitAt, maskAt, mergedLane, merged, laneNumber, laneHolds, count, laneResult, sumZ, groupOf}
 use Rattle.rules.specs.Executing.{wordOf, selectedWord}
 use Rattle.rules.specs.LaneScalars.{Operation, compares, computes, saturates, partSelector, digitOperand, laneScalar, sum, maskedSum, laneForm}
+use Rattle.laws.specs.PlaceLaws.{off}
 use Rattle.laws.specs.ExecutionLaws.{size-pos, low-lt, joined-same, sum-same, part-replaced}
 
 -- ==== a digit and its scalar operand
@@ -130,7 +131,7 @@ module _ (ws : List ℕ) (l : Lanes) (fitA : digitsFit (l .width) (l .asel) ≡ 
   unclamped (computes op dtype sat) e n = go sat e
     where
       go : (s : Bool) → s ≡ false → scalarZ (computes op dtype s) n (laneScalar l i form) a-word b-word ≡ laneZ (computes op dtype s) l (wordOf ws (l .a)) (wordOf ws (l .b)) i
-      go true e = let z : _≡_ {A = ℕ} 0 1 = cc in absurd (omega arith)
+      go true e = off e
       go false e = at-width (computes op dtype false)
 
 -- ==== a group of lanes, without and with `add`
@@ -170,6 +171,18 @@ low-exact s x = go (s && leb wordSize (2 * x)) (ltb x wordSize) refl
 sums-same : (k : ℕ) (f g : ℕ → ℕ) → ((i : ℕ) → i < k → f i ≡ g i) → sum k f ≡ sum k g
 sums-same zero f g h = refl
 sums-same (suc k) f g h = rw (h 0 (omega arith), sums-same k (λ i. f (suc i)) (λ i. g (suc i)) (λ i p. h (suc i) (omega arith))) refl
+
+-- a sum of ones is a count
+pub masked-sum-counts : (l : Lanes) (f : ℕ → Bool) → maskedSum l (λ i. bit (f i)) ≡ count (lanes (l .width)) (λ i. maskAt (l .mask) i && f i)
+masked-sum-counts l f = go (lanes (l .width)) (maskAt (l .mask)) f
+  where
+    each : (a b : Bool) → cond a (bit b) 0 ≡ bit (a && b)
+    each true b = refl
+    each false b = refl
+
+    go : (k : ℕ) (m f : ℕ → Bool) → sum k (λ i. cond (m i) (bit (f i)) 0) ≡ count k (λ i. m i && f i)
+    go zero m f = refl
+    go (suc k) m f = ap₂ _+_ (each (m 0) (f 0)) (go k (λ i. m (suc i)) (λ i. f (suc i)))
 
 sum-low : (k : ℕ) (f : ℕ → ℤ) → lowOf wordSize (sumZ k f) ≡ sum k (λ i. lowOf wordSize (f i)) % wordSize
 sum-low zero f = refl
@@ -233,9 +246,7 @@ past-unmasked m i j p e h = go (eqb i j) refl
     go : (s : Bool) → eqb i j ≡ s → suc i ≤ j
     go true k =
         let q : i ≡ j = eqb-true i j k in
-        let z : false ≡ true = sym e ∙ ap (maskAt m) q ∙ h in
-        let y : _≡_ {A = ℕ} 0 1 = cc in
-        absurd (omega arith)
+        off (sym h ∙ ap (maskAt m) (sym q) ∙ e)
     go false k = above i j p (λ q. eqb-false i j k (sym q))
 
 either : (P : ℕ → Type 0) (m : Bool) {x y : ℕ} → P x → P y → P (cond m x y)
@@ -392,7 +403,7 @@ module _ (n q : ℕ) (even : n ≡ suc q + suc q) where
   back-between true (pos x) l h = let k = ltb-true x (n / 2 - 1) h in back-signed (pos x) (omega arith)
   back-between true (negsuc x) l h = let k = ltb-false q x (rw lowest-signed at l) in back-signed (negsuc x) k
   back-between false (pos x) l h = let k = ltb-true x (n - 1) h in back-unsigned x (omega arith)
-  back-between false (negsuc x) l h = let y : _≡_ {A = ℕ} 0 1 = cc in absurd (omega arith)
+  back-between false (negsuc x) l h = off l
 
   clamped-back : (signed : Bool) (z : ℤ) → exactOf signed n (lowOf n (clampedOf true signed n z)) ≡ clampedOf true signed n z
   clamped-back signed z = go (ltZ z (lowestZ signed n)) refl

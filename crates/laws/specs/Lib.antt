@@ -9,5 +9,6 @@ pub mod Choices
 pub mod LineLengths
 pub mod StandardTree
 pub mod LaneLaws
+pub mod LaneLines
 pub mod TakenApartLaws
 pub mod ClampedLaws

@@ -346,7 +346,7 @@ apart-spelled t x s e n h =
     let u : _≡_ {A = ℕ} 0 1 = cc in
     omega arith
 
-off : {A : Type 0} → true ≡ false → A
+pub off : {A : Type 0} → true ≡ false → A
 off e = let z : _≡_ {A = ℕ} 0 1 = cc in absurd (omega arith)
 
 -- only a pair of twice the same predicate is one

@@ -44,7 +44,7 @@ use Rattle.laws.specs.PlaceLaws.{legal-parts, legal-inside}
 use Rattle.laws.specs.ExecutionLaws.{masked-gets-bit, unmasked-keeps-c, add-counts, masked-gets-low, unmasked-keeps-lane, add-sums}
 
 -- what holds of the files lent, and of those after the instruction, holds of what is left
-left-by : (x : Record) (f : Files) (P : Files → Type 0) → P f → P (after (x .instruction) f) → P (run x f .files)
+pub left-by : (x : Record) (f : Files) (P : Files → Type 0) → P f → P (after (x .instruction) f) → P (run x f .files)
 left-by x f P h k = run-cases x f (λ (o : Outcome). P (o .files)) h h h k h
 
 -- ==== nothing else moves

@@ -1,8 +1,8 @@
--- Request T-14 of document 02, "One lane, one scalar": "People explain SIMD lines by taking them apart." A line of vset2, vset4 or of T-01's arithmetic, and its
--- scalar lines, one for each lane that the mask names. Nothing in the bench runs this; crates/bench/specs/TakenApart.antt has the laws.
+-- Request T-14 of document 02, "One lane, one scalar": "People explain SIMD lines by taking them apart." A line of vset2, vset4 or of T-01's arithmetic but the average,
+-- and the scalar lines of the lanes that its mask names. Nothing in the bench runs this; crates/bench/specs/TakenApart.antt has the laws.
 use Prim.Native.Nat.{ℕ, zero, suc, _+_, _-_}
 use mathlib.Core.Bool.{Bool, true, false, cond}
-use mathlib.Core.List.{List, [], _∷_}
+use mathlib.Core.List.{List, [], _∷_, _++_}
 use lib.Dec.{ltb}
 use Rattle.record.specs.Registers.{Files}
 use Rattle.record.specs.declared.Word.{Word}
@@ -14,6 +14,7 @@ use Rattle.record.specs.declared.LaneArith
 use Rattle.record.specs.declared.LaneArith.{LaneArith}
 use Rattle.record.specs.declared.LaneWidth.{LaneWidth}
 use Rattle.record.specs.declared.LaneWidth.the-variants.{Half, Byte}
+use Rattle.record.specs.declared.Mask.{Mask}
 use Rattle.record.specs.declared.Lanes.{Lanes}
 use Rattle.record.specs.declared.Selector.{Selector}
 use Rattle.record.specs.declared.Selector.the-variants.{B0, B1, B2, B3, H0, H1}
@@ -29,7 +30,7 @@ use Rattle.record.specs.declared.Instruction.the-variants.{Arithmetic, Vset, Vs
 use Rattle.record.specs.declared.Record.{Record}
 use Rattle.rules.specs.Numbers.{wordSize, laneSize, lanes, partAt, exactOf, isSigned, lowOf}
 use Rattle.rules.specs.Execution.{digitAt, maskAt}
-use Rattle.rules.specs.Executing.{run}
+use Rattle.rules.specs.Executing.{Answer, run}
 
 -- ==== one lane
 
@@ -97,43 +98,45 @@ extended l dtype i v = lowOf wordSize (exactOf (isSigned dtype) (laneSize (l .wi
 
 -- ==== the whole line, taken apart into a register e
 
--- lane i on top of what stands in c: with `add` it is added to c; else it replaces its part of c
+-- the lines of the n lanes from lane i on, low lane first, as far as the mask names them: `of i c` are those of lane i on top of what stands in c. The first lane takes c,
+-- each later one takes e, where the one before it left its result
+abbrev pub linesFrom : (ℕ → Word → List Record) → Mask → Word → ℕ → ℕ → Word → List Record
+linesFrom of m e zero i c = []
+linesFrom of m e (suc n) i c = cond (maskAt m i) (of i c ++ linesFrom of m e n (suc i) e) (linesFrom of m e n (suc i) c)
+
+-- those of all lanes
+abbrev pub allLanes : Lanes → (ℕ → Word → List Record) → Word → List Record
+allLanes l of e = linesFrom of (l .mask) e (lanes (l .width)) 0 (l .c)
+
+-- without `sat` or without `add`, one scalar line a lane: with `add` it is added to c; else it replaces its part of c
 abbrev pub laneForm : Lanes → Word → ℕ → Word → Form
 laneForm l e i c = cond (l .add) (Combine Add e c) (Merge e (partSelector (l .width) i) c)
 
--- the scalar lines of the n lanes from lane i on, low lane first, as far as the mask names them. The first takes c, each later one takes e, where the one before it
--- left its result
-abbrev pub linesFrom : Guard → Operation → Lanes → Word → ℕ → ℕ → Word → List Record
-linesFrom g o l e zero i c = []
-linesFrom g o l e (suc n) i c =
-    cond (maskAt (l .mask) i) (laneRecord g o l i (laneForm l e i c) ∷ linesFrom g o l e n (suc i) e) (linesFrom g o l e n (suc i) c)
+abbrev pub laneLines : Guard → Operation → Lanes → Word → ℕ → Word → List Record
+laneLines g o l e i c = laneRecord g o l i (laneForm l e i c) ∷ []
 
--- the scalar lines of all lanes
 abbrev pub takenApart : Guard → Operation → Lanes → Word → List Record
-takenApart g o l e = linesFrom g o l e (lanes (l .width)) 0 (l .c)
+takenApart g o l e = allLanes l (laneLines g o l e) e
 
--- `sat` with `add`: no scalar line does both at the lane's width, since with `add` d is bare, and `sat` clamps at 32 bits then. Two lines do: one clamps the lane into its part
--- of a spare register t, and one adds that part, read by dtype, to c
+-- `sat` with `add`: no scalar line does both at the lane's width, since with `add` d is bare, and `sat` clamps at 32 bits then. Two lines a lane do: one clamps it into its part of a
+-- spare register t, and one adds that part, read by dtype, to c
 abbrev pub partScalar : VideoType → Word → Selector → Word → Word → Scalar
 partScalar dtype t sel e c = record { atype = dtype; btype = dtype; form = Plain e; a = Part t sel; b = Whole c }
 
-abbrev pub partAdded : Guard → VideoType → Word → Selector → Word → Word → Record
-partAdded g dtype t sel e c = record { guard = g; instruction = Arithmetic Vadd dtype false (partScalar dtype t sel e c) }
-
--- the two lines of each of the n lanes from lane i on, as above
-abbrev pub clampedFrom : Guard → Arith → VideoType → Lanes → Word → Word → ℕ → ℕ → Word → List Record
-clampedFrom g op dtype l t e zero i c = []
-clampedFrom g op dtype l t e (suc n) i c =
-    cond (maskAt (l .mask) i)
-    (laneRecord g (computes op dtype true) l i (Merge t (partSelector (l .width) i) t)
-    ∷ partAdded g dtype t (partSelector (l .width) i) e c
-    ∷ clampedFrom g op dtype l t e n (suc i) e)
-    (clampedFrom g op dtype l t e n (suc i) c)
+abbrev pub clampedLines : Guard → Arith → VideoType → Lanes → Word → Word → ℕ → Word → List Record
+clampedLines g op dtype l t e i c =
+    laneRecord g (computes op dtype true) l i (Merge t (partSelector (l .width) i) t)
+    ∷ record { guard = g; instruction = Arithmetic Vadd dtype false (partScalar dtype t (partSelector (l .width) i) e c) }
+    ∷ []
 
 abbrev pub clampedApart : Guard → Arith → VideoType → Lanes → Word → Word → List Record
-clampedApart g op dtype l t e = clampedFrom g op dtype l t e (lanes (l .width)) 0 (l .c)
+clampedApart g op dtype l t e = allLanes l (clampedLines g op dtype l t e) e
 
--- the files after the lines, one after another
+-- the files after the lines, one after another, and what each answers
 abbrev pub runAll : List Record → Files → Files
 runAll [] f = f
 runAll (x ∷ xs) f = runAll xs (run x f .files)
+
+abbrev pub answersAll : List Record → Files → List Answer
+answersAll [] f = []
+answersAll (x ∷ xs) f = run x f .answer ∷ answersAll xs (run x f .files)
