@@ -4,6 +4,7 @@ use Prim.Native.Nat.{ℕ, _+_, _%_, _<_}
 use native.Mathlib.Omega.{arith}
 use mathlib.Core.Path.{_≡_, refl}
 use mathlib.Core.Bool.{Bool, true, false, _&&_}
+use mathlib.Core.List.{map}
 use Rattle.signs.specs.Lists.{Listed}
 use Rattle.record.specs.Registers.{Files, r, at, Inside}
 use Rattle.record.specs.Refusals.{Legal, formInRange}
@@ -20,7 +21,7 @@ use Rattle.record.specs.declared.Instruction.the-variants.{VsetLanes, Arithmeti
 use Rattle.record.specs.declared.Record.{Record}
 use Rattle.rules.specs.Numbers.{wordSize, laneSize, lanes, partAt, lowOf, bit}
 use Rattle.rules.specs.Execution.{maskAt, laneHolds, count, laneResult}
-use Rattle.rules.specs.Executing.{put, Admitted, guardHolds, Answer, run}
+use Rattle.rules.specs.Executing.{put, Admitted, guardHolds, run}
 use Rattle.rules.specs.LaneScalars.{Operation, compares, computes, simdOf, saturates, partSelector, laneRecord, maskedSum, extended, takenApart, clampedApart, runAll, answersAll}
 use Rattle.laws.specs.LaneLaws as numbers
 use Rattle.laws.specs.LaneLines.{all-skipped}
@@ -122,8 +123,8 @@ module _ (x : Record) (legal : Legal x) (l : Lanes) where
 
     module _ (f : Files) (admitted : Admitted f) where
       -- and answer as it does: done, or skipped where the guard does not hold, and then they move nothing.
-      pub lines-answer : (e : Word) → Inside (r e) → (a : Answer) → Listed a (answersAll (takenApart (x .guard) o l e) f) → a ≡ run x f .answer
-      lines-answer e inside a m = laws.lines-answer x legal o l is f admitted (takenApart (x .guard) o l e) (laws.lines-scalar x legal o l is e inside) a m
+      pub lines-answer : (e : Word) → Inside (r e) → answersAll (takenApart (x .guard) o l e) f ≡ map (λ (y : Record). run x f .answer) (takenApart (x .guard) o l e)
+      lines-answer e inside = laws.lines-answer x legal o l is f admitted (takenApart (x .guard) o l e) (laws.lines-scalar x legal o l is e inside)
 
       pub lines-skipped : guardHolds (f .preds) (x .guard) ≡ false → (e : Word) → Inside (r e) → runAll (takenApart (x .guard) o l e) f ≡ f
       lines-skipped guard e inside = all-skipped (x .guard) (takenApart (x .guard) o l e) (laws.lines-scalar x legal o l is e inside) f admitted guard
@@ -147,9 +148,9 @@ module _ (x : Record) (legal : Legal x) (l : Lanes) where
 
     module _ (f : Files) (admitted : Admitted f) where
       -- and answer as it does, and where the guard does not hold they move nothing.
-      pub clamped-answer : (e : Word) → Inside (r e) → (a : Answer) → Listed a (answersAll (clampedApart (x .guard) op dtype l t e) f) → a ≡ run x f .answer
-      clamped-answer e in-e a m =
-          laws.lines-answer x legal (computes op dtype true) l is f admitted (clampedApart (x .guard) op dtype l t e) (clamped.clamped-scalar x legal op dtype l is t e in-t in-e) a m
+      pub clamped-answer : (e : Word) → Inside (r e) → answersAll (clampedApart (x .guard) op dtype l t e) f ≡ map (λ (y : Record). run x f .answer) (clampedApart (x .guard) op dtype l t e)
+      clamped-answer e in-e =
+          laws.lines-answer x legal (computes op dtype true) l is f admitted (clampedApart (x .guard) op dtype l t e) (clamped.clamped-scalar x legal op dtype l is t e in-t in-e)
 
       pub clamped-skipped : guardHolds (f .preds) (x .guard) ≡ false → (e : Word) → Inside (r e) → runAll (clampedApart (x .guard) op dtype l t e) f ≡ f
       clamped-skipped guard e in-e = all-skipped (x .guard) (clampedApart (x .guard) op dtype l t e) (clamped.clamped-scalar x legal op dtype l is t e in-t in-e) f admitted guard

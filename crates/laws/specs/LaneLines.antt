@@ -1,9 +1,9 @@
 -- T-14: lines of lanes one after another, whatever the lines of a lane are: what holds of each, what they answer, what they leave. Assumes nothing.
 use Prim.Native.Nat.{ℕ, zero, suc, _+_, _<_, _≤_}
 use native.Mathlib.Omega.{arith}
-use mathlib.Core.Path.{_≡_, refl, sym, ap, subst, _∙_}
+use mathlib.Core.Path.{_≡_, refl, sym, ap, ap₂, subst, _∙_}
 use mathlib.Core.Bool.{Bool, true, false, cond}
-use mathlib.Core.List.{List, [], _∷_, _++_}
+use mathlib.Core.List.{List, [], _∷_, _++_, map}
 use lib.ListN.{getD, set, length-set}
 use lib.IntN.{ℤ}
 use borrow.Author.Tests.{lt-ltb}
@@ -22,7 +22,7 @@ use Rattle.record.specs.declared.Guard.{Guard}
 use Rattle.record.specs.declared.Record.{Record}
 use Rattle.rules.specs.Numbers.{lanes}
 use Rattle.rules.specs.Execution.{arithmeticOf, vsetOf, formOf, formSize, maskAt, groupOf}
-use Rattle.rules.specs.Executing.{wordOf, selectedWord, formC, formD, write, writes, put, after, sizesFit, Admitted, guardHolds, Answer, done, skipped, run}
+use Rattle.rules.specs.Executing.{wordOf, selectedWord, formC, formD, write, writes, put, after, sizesFit, Admitted, guardHolds, done, skipped, run}
 use Rattle.rules.specs.LaneScalars.{Operation, compares, computes, scalarOf, linesFrom, allLanes, runAll, answersAll}
 use Rattle.laws.specs.PlaceLaws.{off}
 use Rattle.laws.specs.OutcomeLaws.{executes, skips}
@@ -99,13 +99,13 @@ Under g t f = Admitted f × (guardHolds (f .preds) g ≡ t)
 
 -- one after another, all answer alike,
 pub all-answer : (g : Guard) (t : Bool) (ys : List Record) → ((y : Record) → Listed y ys → ScalarLine g y) → (f : Files) → Admitted f → guardHolds (f .preds) g ≡ t
-    → (a : Answer) → Listed a (answersAll ys f) → a ≡ cond t done skipped
-all-answer g t (y ∷ ys) each f ok guard a (here q) =
+    → answersAll ys f ≡ map (λ (y : Record). cond t done skipped) ys
+all-answer g t [] each f ok guard = refl
+all-answer g t (y ∷ ys) each f ok guard =
     let k = each y (here refl) in
-    q ∙ answer-by-guard y (k .legal) f ok t (ap (guardHolds (f .preds)) (k .guarded) ∙ guard)
-all-answer g t (y ∷ ys) each f ok guard a (later q) =
-    let h = one-word g y (each y (here refl)) f (Under g t) (ok, guard) (λ n v. (put-admitted n v f ok, guard)) in
-    all-answer g t ys (λ z m. each z (later m)) (run y f .files) (h .0) (h .1) a q
+    let h = one-word g y k f (Under g t) (ok, guard) (λ n v. (put-admitted n v f ok, guard)) in
+    ap₂ _∷_ (answer-by-guard y (k .legal) f ok t (ap (guardHolds (f .preds)) (k .guarded) ∙ guard))
+    (all-answer g t ys (λ z m. each z (later m)) (run y f .files) (h .0) (h .1))
 
 -- and where the guard does not hold, nothing moves
 pub all-skipped : (g : Guard) (ys : List Record) → ((y : Record) → Listed y ys → ScalarLine g y) → (f : Files) → Admitted f → guardHolds (f .preds) g ≡ false → runAll ys f ≡ f

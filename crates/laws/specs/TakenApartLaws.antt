@@ -3,7 +3,7 @@ use Prim.Native.Nat.{ℕ, _+_, _%_, _<_}
 use native.Mathlib.Omega.{arith}
 use mathlib.Core.Path.{_≡_, refl, sym, ap, _∙_}
 use mathlib.Core.Bool.{Bool, true, false, _&&_, cond, and-eq-true-iff}
-use mathlib.Core.List.{List, [], _∷_}
+use mathlib.Core.List.{List, [], _∷_, map}
 use lib.Dec.{ltb}
 use lib.IntN.{ℤ, pos}
 use borrow.Author.Tests.{ltb-true}
@@ -194,10 +194,10 @@ module _ (x : Record) (legal : Legal x) (o : Operation) (l : Lanes) (is : x .ins
           (λ i h m. sym (plain-holds i h (d i) (inside i) e))
 
     -- both answer alike
-    pub lines-answer : (ys : List Record) → ((y : Record) → Listed y ys → ScalarLine (x .guard) y) → (a : Answer) → Listed a (answersAll ys f) → a ≡ run x f .answer
-    lines-answer ys each a m =
+    pub lines-answer : (ys : List Record) → ((y : Record) → Listed y ys → ScalarLine (x .guard) y) → answersAll ys f ≡ map (λ (y : Record). run x f .answer) ys
+    lines-answer ys each =
         let t = guardHolds (f .preds) (x .guard) in
-        all-answer (x .guard) t ys each f admitted refl a m ∙ sym (answer-by-guard x legal f admitted t refl)
+        all-answer (x .guard) t ys each f admitted refl ∙ ap (λ (a : Answer). map (λ (y : Record). a) ys) (sym (answer-by-guard x legal f admitted t refl))
 
     -- ==== the scalar lines one after another, into e
 
