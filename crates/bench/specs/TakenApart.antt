@@ -48,7 +48,7 @@ sat-saturates op dtype sat = refl
 pub vset-does-not : (cmp : Cmp6) → saturates (compares cmp) ≡ false
 vset-does-not cmp = refl
 
--- a sum over the masked lanes is that of the lanes that the mask names: of ones and zeros, the number of masked lanes that hold
+-- over the masked lanes, a sum of ones and zeros is the number of masked lanes that hold
 pub masked-sum-counts : (l : Lanes) (f : ℕ → Bool) → maskedSum l (λ i. bit (f i)) ≡ count (lanes (l .width)) (λ i. maskAt (l .mask) i && f i)
 masked-sum-counts l f = numbers.masked-sum-counts l f
 
