@@ -22,7 +22,7 @@ use Rattle.record.specs.declared.Record.{Record}
 use Rattle.rules.specs.Numbers.{wordSize, laneSize, lanes, partAt, lowOf, bit}
 use Rattle.rules.specs.Execution.{maskAt, laneHolds, count, laneResult}
 use Rattle.rules.specs.Executing.{put, Admitted, guardHolds, run}
-use Rattle.rules.specs.LaneScalars.{Operation, compares, computes, simdOf, saturates, partSelector, laneRecord, maskedSum, extended, takenApart, clampedApart, runAll, answersAll}
+use Rattle.rules.specs.LaneScalars.{Operation, compares, computes, simdOf, saturates, partSelector, laneRecord, ScalarLine, maskedSum, extended, takenApart, clampedApart, runAll, answersAll}
 use Rattle.laws.specs.LaneLaws as numbers
 use Rattle.laws.specs.LaneLines.{all-skipped}
 use Rattle.laws.specs.TakenApartLaws as laws
@@ -114,12 +114,12 @@ module _ (x : Record) (legal : Legal x) (l : Lanes) where
         ≡ (at f (r (l .c)) + maskedSum l (λ i. extended l dtype i (at (run (laneRecord (x .guard) (computes op dtype true) l i (Merge (d i) (partSelector (l .width) i) (c i))) f .files) (r (d i))))) % wordSize
     clamped-add-is-sum op dtype is adds d c in-d in-c = laws.lanes-add-clamped x legal l f admitted guard op dtype is adds d c in-d in-c
 
-  -- ==== a technician may replace the SIMD line by its scalar lines, one after another. Without `sat` or without `add`, each lane has one:
+  -- ==== on files that document 01 admits a technician may replace the SIMD line by scalar lines, one after another. Without `sat` or without `add`, each masked lane has one:
 
   module _ (o : Operation) (is : x .instruction ≡ simdOf o l) where
-    -- all of them are legal, under the SIMD line's guard,
-    pub lines-legal : (e : Word) → Inside (r e) → (y : Record) → Listed y (takenApart (x .guard) o l e) → Legal y × (y .guard ≡ x .guard)
-    lines-legal e inside y m = let k = laws.lines-scalar x legal o l is e inside y m in (k .legal, k .guarded)
+    -- all of them are legal lines of scalar video, under the SIMD line's guard,
+    pub lines-legal : (e : Word) → Inside (r e) → (y : Record) → Listed y (takenApart (x .guard) o l e) → ScalarLine (x .guard) y
+    lines-legal e inside y m = laws.lines-scalar x legal o l is e inside y m
 
     module _ (f : Files) (admitted : Admitted f) where
       -- and answer as it does: done, or skipped where the guard does not hold, and then they move nothing.
@@ -139,12 +139,12 @@ module _ (x : Record) (legal : Legal x) (l : Lanes) where
         pub replaced-in-place : (l .d .0 ≡ l .a .0 → ⊥) → (l .d .0 ≡ l .b .0 → ⊥) → runAll (takenApart (x .guard) o l (l .d)) f ≡ run x f .files
         replaced-in-place not-a not-b = laws.in-place x legal o l is f admitted one-line not-a not-b
 
-  -- With `sat` and `add` each lane has two, by way of a spare register t, which is none of a, b, c and the register that gets the result:
+  -- With `sat` and `add` each masked lane has two, by way of a spare register t, which is none of a, b, c and the register that gets the result:
 
   module _ (op : Arith) (dtype : VideoType) (is : x .instruction ≡ simdOf (computes op dtype true) l) (t : Word) (in-t : Inside (r t)) where
-    -- all of them are legal, under the SIMD line's guard,
-    pub clamped-legal : (e : Word) → Inside (r e) → (y : Record) → Listed y (clampedApart (x .guard) op dtype l t e) → Legal y × (y .guard ≡ x .guard)
-    clamped-legal e in-e y m = let k = clamped.clamped-scalar x legal op dtype l is t e in-t in-e y m in (k .legal, k .guarded)
+    -- all of them are legal lines of scalar video, under the SIMD line's guard,
+    pub clamped-legal : (e : Word) → Inside (r e) → (y : Record) → Listed y (clampedApart (x .guard) op dtype l t e) → ScalarLine (x .guard) y
+    clamped-legal e in-e y m = clamped.clamped-scalar x legal op dtype l is t e in-t in-e y m
 
     module _ (f : Files) (admitted : Admitted f) where
       -- and answer as it does, and where the guard does not hold they move nothing.

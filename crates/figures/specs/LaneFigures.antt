@@ -167,7 +167,7 @@ pub rights-hold : map given rights ≡ map said rights
 unfolding rights standard run isLegal sizesFit predsFit guardHolds after writes arithmeticOf vsetOf formOf selectedOf exactOf lanesOf laneHolds holdsZ laneResult arithmeticLanesOf
 rights-hold = refl
 
--- ---- wrong: the same, taken apart by a wrong rule
+-- ---- wrong: SIMD lines taken apart by a wrong rule
 
 unfoldable pub wrongs : List Pair
 wrongs =

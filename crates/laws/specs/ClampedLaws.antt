@@ -22,12 +22,12 @@ use Rattle.record.specs.declared.Record.{Record}
 use Rattle.rules.specs.Numbers.{wordSize, laneSize, lanes, partAt, exactOf, isSigned, lowOf}
 use Rattle.rules.specs.Execution.{formOf, replaced}
 use Rattle.rules.specs.Executing.{wordOf, put, after, Admitted, guardHolds, run}
-use Rattle.rules.specs.LaneScalars.{computes, scalarOf, partSelector, laneScalar, laneRecord, partScalar, clampedLines, clampedApart, runAll}
+use Rattle.rules.specs.LaneScalars.{computes, scalarOf, partSelector, laneScalar, laneRecord, ScalarLine, partScalar, clampedLines, clampedApart, runAll}
 use Rattle.laws.specs.OutcomeLaws.{executes}
 use Rattle.laws.specs.RunLaws.{sized, put-same, put-other}
 use Rattle.laws.specs.ExecutionLaws.{size-pos, low-lt, selected-part-replaced}
 use Rattle.laws.specs.LaneLaws.{selector-width, selector-part, part-number, laneZ, at-width, stepOf, step-add, clamped-lane}
-use Rattle.laws.specs.LaneLines.{word-range, put-put, put-past, put-back, put-admitted, scalar-writes, ScalarLine, all-skipped, lanes-each, lanes-left}
+use Rattle.laws.specs.LaneLines.{word-range, put-put, put-past, put-back, put-admitted, scalar-writes, all-skipped, lanes-each, lanes-left}
 use Rattle.laws.specs.TakenApartLaws.{whole-number, scalar-fits, fits, guard-range, registers-range, lane-legal, simd-holds, d-inside, simd-files, simd-skipped}
 
 module _ (x : Record) (legal : Legal x) (op : Arith) (dtype : VideoType) (l : Lanes) (is : x .instruction ≡ ArithmeticLanes (LaneArith.Scalar op) dtype true l) (t e : Word) (in-t : Inside (r t)) (in-e : Inside (r e)) where

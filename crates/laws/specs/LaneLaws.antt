@@ -266,7 +266,7 @@ module _ (l : Lanes) (t : ℕ → ℤ) (signed : Bool) where
   chain zero i v = v
   chain (suc n) i v = cond (maskAt (l .mask) i) (chain n (suc i) (stepOf l signed i v (t i))) (chain n (suc i) v)
 
-  -- some line has been worked: what holds of one step's result, and is kept by each, holds
+  -- what holds of v and of every step's result holds of the chain; where the mask names one of the lanes, it need not hold of v
   stepped : (P : ℕ → Type 0) → ((i v : ℕ) → P (stepOf l signed i v (t i))) → (n i v : ℕ) → P v → P (chain n i v)
   stepped P h zero i v p = p
   stepped P h (suc n) i v p =

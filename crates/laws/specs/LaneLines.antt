@@ -23,7 +23,7 @@ use Rattle.record.specs.declared.Record.{Record}
 use Rattle.rules.specs.Numbers.{lanes}
 use Rattle.rules.specs.Execution.{arithmeticOf, vsetOf, formOf, formSize, maskAt, groupOf}
 use Rattle.rules.specs.Executing.{wordOf, selectedWord, formC, formD, write, writes, put, after, sizesFit, Admitted, guardHolds, done, skipped, run}
-use Rattle.rules.specs.LaneScalars.{Operation, compares, computes, scalarOf, linesFrom, allLanes, runAll, answersAll}
+use Rattle.rules.specs.LaneScalars.{Operation, compares, computes, scalarOf, ScalarLine, linesFrom, allLanes, runAll, answersAll}
 use Rattle.laws.specs.PlaceLaws.{off}
 use Rattle.laws.specs.OutcomeLaws.{executes, skips}
 use Rattle.laws.specs.RunLaws.{left-by}
@@ -75,13 +75,6 @@ pub scalar-writes : (o : Operation) (s : Scalar) (f : Files)
 unfolding writes vsetOf arithmeticOf
 scalar-writes (compares cmp) s f = refl
 scalar-writes (computes op dtype sat) s f = refl
-
-pub record ScalarLine (g : Guard) (y : Record) : Type 0 where
-  pub legal : Legal y
-  pub guarded : y .guard ≡ g
-  pub o : Operation
-  pub s : Scalar
-  pub scalar : y .instruction ≡ scalarOf o s
 
 -- a legal line answers done where its guard holds, else skipped
 pub answer-by-guard : (y : Record) → Legal y → (f : Files) → Admitted f → (t : Bool) → guardHolds (f .preds) (y .guard) ≡ t → run y f .answer ≡ cond t done skipped

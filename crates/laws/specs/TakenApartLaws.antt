@@ -31,13 +31,13 @@ use Rattle.record.specs.declared.Record.{Record}
 use Rattle.rules.specs.Numbers.{wordSize, laneSize, lanes, partAt, exactOf, isSigned, lowOf, bit}
 use Rattle.rules.specs.Execution.{selectedOf, arithmeticLanesOf, formOf, formSize, digitAt, maskAt, laneHolds, groupOf}
 use Rattle.rules.specs.Executing.{wordOf, selectedWord, formC, formD, Write, write, writes, put, putAll, after, Admitted, guardHolds, Answer, run}
-use Rattle.rules.specs.LaneScalars.{Operation, compares, computes, simdOf, scalarOf, saturates, partSelector, digitOperand, laneScalar, laneRecord, maskedSum, extended, laneForm, laneLines, takenApart, runAll, answersAll}
+use Rattle.rules.specs.LaneScalars.{Operation, compares, computes, simdOf, scalarOf, saturates, partSelector, digitOperand, laneScalar, laneRecord, maskedSum, extended, ScalarLine, laneForm, laneLines, takenApart, runAll, answersAll}
 use Rattle.laws.specs.PlaceLaws.{legal-parts, off}
 use Rattle.laws.specs.OutcomeLaws.{executes, skips}
 use Rattle.laws.specs.RunLaws.{holds-written, masked-lane, sized, put-same, put-other}
 use Rattle.laws.specs.ExecutionLaws.{size-pos, low-lt, masked-gets, selected-part-replaced, vset-group}
 use Rattle.laws.specs.LaneLaws.{selector-width, selector-part, isSignedOf, laneZ, scalarZ, at-width, unclamped, group-plain, group-adds, added-low, stepOf, form-step, low-low, clamped-lane}
-use Rattle.laws.specs.LaneLines.{word-range, put-put, put-admitted, scalar-writes, ScalarLine, answer-by-guard, all-answer, all-skipped, lanes-each, lanes-left}
+use Rattle.laws.specs.LaneLines.{word-range, put-put, put-admitted, scalar-writes, answer-by-guard, all-answer, all-skipped, lanes-each, lanes-left}
 
 -- ==== a SIMD line, as it stands in `writes`
 

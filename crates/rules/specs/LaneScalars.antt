@@ -1,10 +1,12 @@
 -- Request T-14 of document 02, "One lane, one scalar": "People explain SIMD lines by taking them apart." A line of vset2, vset4 or of T-01's arithmetic but the average,
 -- and the scalar lines of the lanes that its mask names. Nothing in the bench runs this; crates/bench/specs/TakenApart.antt has the laws.
 use Prim.Native.Nat.{ℕ, zero, suc, _+_, _-_}
+use mathlib.Core.Path.{_≡_}
 use mathlib.Core.Bool.{Bool, true, false, cond}
 use mathlib.Core.List.{List, [], _∷_, _++_}
 use lib.Dec.{ltb}
 use Rattle.record.specs.Registers.{Files}
+use Rattle.record.specs.Refusals.{Legal}
 use Rattle.record.specs.declared.Word.{Word}
 use Rattle.record.specs.declared.VideoType.{VideoType}
 use Rattle.record.specs.declared.Cmp6.{Cmp6}
@@ -83,6 +85,14 @@ laneScalar l i form = record {
 abbrev pub laneRecord : Guard → Operation → Lanes → ℕ → Form → Record
 laneRecord g o l i form = record { guard = g; instruction = scalarOf o (laneScalar l i form) }
 
+-- y is a legal line of scalar video under guard g
+pub record ScalarLine (g : Guard) (y : Record) : Type 0 where
+  pub legal : Legal y
+  pub guarded : y .guard ≡ g
+  pub o : Operation
+  pub s : Scalar
+  pub scalar : y .instruction ≡ scalarOf o s
+
 -- the sum of the first k numbers
 abbrev pub sum : ℕ → (ℕ → ℕ) → ℕ
 sum zero f = 0
@@ -98,17 +108,17 @@ extended l dtype i v = lowOf wordSize (exactOf (isSigned dtype) (laneSize (l .wi
 
 -- ==== the whole line, taken apart into a register e
 
--- the lines of the n lanes from lane i on, low lane first, as far as the mask names them: `of i c` are those of lane i on top of what stands in c. The first lane takes c,
--- each later one takes e, where the one before it left its result
+-- the lines of the n lanes from lane i on, low lane first, as far as the mask names them: `of i c` are those of lane i on top of what stands in c. The first masked lane
+-- takes c, each later one takes e, where the one before it left its result
 abbrev pub linesFrom : (ℕ → Word → List Record) → Mask → Word → ℕ → ℕ → Word → List Record
 linesFrom of m e zero i c = []
 linesFrom of m e (suc n) i c = cond (maskAt m i) (of i c ++ linesFrom of m e n (suc i) e) (linesFrom of m e n (suc i) c)
 
--- those of all lanes
+-- those of all masked lanes
 abbrev pub allLanes : Lanes → (ℕ → Word → List Record) → Word → List Record
 allLanes l of e = linesFrom of (l .mask) e (lanes (l .width)) 0 (l .c)
 
--- without `sat` or without `add`, one scalar line a lane: with `add` it is added to c; else it replaces its part of c
+-- without `sat` or without `add`, one scalar line a masked lane: with `add` it is added to c; else it replaces its part of c
 abbrev pub laneForm : Lanes → Word → ℕ → Word → Form
 laneForm l e i c = cond (l .add) (Combine Add e c) (Merge e (partSelector (l .width) i) c)
 
@@ -118,8 +128,8 @@ laneLines g o l e i c = laneRecord g o l i (laneForm l e i c) ∷ []
 abbrev pub takenApart : Guard → Operation → Lanes → Word → List Record
 takenApart g o l e = allLanes l (laneLines g o l e) e
 
--- `sat` with `add`: no scalar line does both at the lane's width, since with `add` d is bare, and `sat` clamps at 32 bits then. Two lines a lane do: one clamps it into its part of a
--- spare register t, and one adds that part, read by dtype, to c
+-- `sat` with `add`: no scalar line does both at the lane's width, since with `add` d is bare, and `sat` clamps at 32 bits then. Two lines a masked lane do: one clamps it into its
+-- part of a spare register t, and one adds that part, read by dtype, to c
 abbrev pub partScalar : VideoType → Word → Selector → Word → Word → Scalar
 partScalar dtype t sel e c = record { atype = dtype; btype = dtype; form = Plain e; a = Part t sel; b = Whole c }
 
