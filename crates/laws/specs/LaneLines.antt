@@ -4,7 +4,8 @@ use native.Mathlib.Omega.{arith}
 use mathlib.Core.Path.{_≡_, refl, sym, ap, ap₂, subst, _∙_}
 use mathlib.Core.Bool.{Bool, true, false, cond}
 use mathlib.Core.List.{List, [], _∷_, _++_, map}
-use lib.ListN.{getD, set, length-set}
+use lib.ListN.{length-set}
+use lib.Seq.{set-getD, set-set, set-comm}
 use lib.IntN.{ℤ}
 use borrow.Author.Tests.{lt-ltb}
 use Rattle.signs.specs.Lists.{Listed}
@@ -34,32 +35,19 @@ use Rattle.laws.specs.LaneLaws.{isSignedOf, scalarZ, stepOf, past-unmask
 pub word-range : (w : Word) → Inside (r w) → wordInFile w ≡ true
 word-range w h = lt-ltb (w .0) wordCount h
 
+-- the files with other words
+abbrev with-words : Files → List ℕ → Files
+with-words f ws = files ws (f .doubles) (f .preds)
+
 pub put-put : (n u v : ℕ) (f : Files) → put (word n) v (put (word n) u f) ≡ put (word n) v f
-put-put n u v f = ap (λ (ws : List ℕ). files ws (f .doubles) (f .preds)) (twice (f .words) n)
-  where
-    twice : (ws : List ℕ) (n : ℕ) → set (set ws n u) n v ≡ set ws n v
-    twice [] n = refl
-    twice (w ∷ ws) zero = refl
-    twice (w ∷ ws) (suc n) = ap (_∷_ w) (twice ws n)
+put-put n u v f = ap (with-words f) (set-set (f .words) n u v)
 
 pub put-past : (m n u v : ℕ) (f : Files) → (m ≡ n → ⊥) → put (word m) u (put (word n) v f) ≡ put (word n) v (put (word m) u f)
-put-past m n u v f h = ap (λ (ws : List ℕ). files ws (f .doubles) (f .preds)) (past (f .words) m n h)
-  where
-    past : (ws : List ℕ) (m n : ℕ) → (m ≡ n → ⊥) → set (set ws n v) m u ≡ set (set ws m u) n v
-    past [] m n h = refl
-    past (w ∷ ws) zero zero h = absurd (h refl)
-    past (w ∷ ws) zero (suc n) h = refl
-    past (w ∷ ws) (suc m) zero h = refl
-    past (w ∷ ws) (suc m) (suc n) h = ap (_∷_ w) (past ws m n (λ e. h (ap suc e)))
+put-past m n u v f h = ap (with-words f) (set-comm (f .words) n m v u (λ e. h (sym e)))
 
 -- what is there already
 pub put-back : (n : ℕ) (f : Files) → put (word n) (at f (word n)) f ≡ f
-put-back n f = ap (λ (ws : List ℕ). files ws (f .doubles) (f .preds)) (back (f .words) n)
-  where
-    back : (ws : List ℕ) (n : ℕ) → set ws n (getD ws n 0) ≡ ws
-    back [] n = refl
-    back (w ∷ ws) zero = refl
-    back (w ∷ ws) (suc n) = ap (_∷_ w) (back ws n)
+put-back n f = ap (with-words f) (set-getD (f .words) n 0)
 
 pub put-admitted : (n v : ℕ) (f : Files) → Admitted f → Admitted (put (word n) v f)
 unfolding sizesFit
