@@ -1,6 +1,6 @@
 /*
  * The listing program of the PTX line bench, worked out from document 01 and
- * requests T-01 and T-02.
+ * requests T-01, T-02 and T-05.
  *
  * It reads a listing from standard input, reads each line into a record,
  * executes the record, and writes one answer per line and, at the end, the
@@ -264,7 +264,7 @@ typedef struct {
     Text text;
 } Operand;
 
-enum { NAMES_KEPT = 7, OPERANDS_KEPT = 4 };
+enum { NAMES_KEPT = 7, OPERANDS_KEPT = 5 };
 
 typedef struct {
     bool guarded;
@@ -274,8 +274,11 @@ typedef struct {
     Text head;
     unsigned names;                 /* all of them, kept or not */
     Word name[NAMES_KEPT + 1];      /* the first ones, then W_NONE */
+    const Byte *name_at[NAMES_KEPT];
     unsigned operands;              /* all of them, kept or not */
     Operand operand[OPERANDS_KEPT];
+    const Byte *operands_end;       /* behind the last byte of the last one */
+    size_t place;                   /* of refusals 2 to 7 */
 } Line;
 
 static bool is_blank(Byte b) { return b == ' ' || b == '\t'; }
@@ -396,8 +399,10 @@ static const Byte *read_head(const Byte *p, Line *line)
         p = read_name(name);
         if (p == NULL)
             return NULL;
-        if (line->names < NAMES_KEPT)
+        if (line->names < NAMES_KEPT) {
             line->name[line->names] = word_of(name, (size_t)(p - name));
+            line->name_at[line->names] = name;
+        }
         line->names++;
         if (*p != '.')
             break;
@@ -419,6 +424,7 @@ static const Byte *read_operands(const Byte *p, Line *line)
         if (p == NULL)
             return NULL;
         line->operands++;
+        line->operands_end = p;
         p = skip_blanks(p);
         if (*p != ',')
             return p;
@@ -748,11 +754,8 @@ static bool numbers_fit(const Line *line)
     return true;
 }
 
-/*
- * Reads the line of `length` bytes at `p`.  When it is accepted, `line`
- * holds its texts, without default masks and selectors, and `rec` the record.
- */
-static Refusal read_line(const Byte *p, size_t length, Line *line, Record *rec)
+/* The number of the refusal, ACCEPTED if there is none. */
+static Refusal judge_line(const Byte *p, size_t length, Line *line, Record *rec)
 {
     if (length > LINE_MOST)
         return TOO_LONG;
@@ -777,6 +780,412 @@ static Refusal read_line(const Byte *p, size_t length, Line *line, Record *rec)
         rec->guard_negated = line->guard_negated;
     }
     return ACCEPTED;
+}
+
+/* ------------------------------------------------------------------------
+ * The place of refusal 2.  What the bytes so far begin, so that each byte
+ * that some line of the right shape, however long, has behind them leads on.
+ * ------------------------------------------------------------------------ */
+
+typedef enum {
+    BEFORE_HEAD,        /* nothing but blanks */
+    GUARD_SIGN,         /* `@` */
+    GUARD_NOT,          /* `@!` */
+    GUARD_REGISTER,
+    BEHIND_GUARD,       /* blanks behind it */
+    HEAD_NAME,
+    HEAD_DOT,
+    BEFORE_OPERAND,     /* blanks behind the head, or a comma and perhaps blanks */
+    OPERAND_NOT,        /* `!` */
+    FIRST_REGISTER,     /* not behind `!` */
+    FIRST_SINK,         /* `_` */
+    BAR,
+    LAST_REGISTER,      /* behind `!` or a bar: nothing more belongs to its operand */
+    SELECTOR_DOT,
+    SELECTOR_NAME,
+    BEHIND_OPERAND,     /* its end, or blanks behind it */
+    BEHIND_LINE         /* `;` and perhaps blanks */
+} Spot;
+
+typedef enum { PERCENT, PERCENT_R, FILE_NAMED, ZERO, ONE_DIGIT, TWO_DIGITS, THREE_DIGITS } Spelled;
+
+typedef struct {
+    Spot spot;
+    Spelled spelled;    /* how much of the register is there */
+} Beginning;
+
+static bool enter(Beginning *b, Spot spot)
+{
+    b->spot = spot;
+    b->spelled = PERCENT;
+    return true;
+}
+
+static bool spell(Beginning *b, Spelled spelled)
+{
+    b->spelled = spelled;
+    return true;
+}
+
+static bool follow_register(Beginning *b, Byte next)
+{
+    switch (b->spelled) {
+    case PERCENT:
+        return (next == 'r' && spell(b, PERCENT_R)) || (next == 'p' && spell(b, FILE_NAMED));
+    case PERCENT_R:
+        if (next == 'd')
+            return spell(b, FILE_NAMED);
+        return is_digit(next) && spell(b, next == '0' ? ZERO : ONE_DIGIT);
+    case FILE_NAMED:
+        return is_digit(next) && spell(b, next == '0' ? ZERO : ONE_DIGIT);
+    case ONE_DIGIT:
+        return is_digit(next) && spell(b, TWO_DIGITS);
+    case TWO_DIGITS:
+        return is_digit(next) && spell(b, THREE_DIGITS);
+    default:        /* no digit behind 0, nor a fourth */
+        return false;
+    }
+}
+
+static bool is_spelled(const Beginning *b)
+{
+    return b->spelled >= ZERO;
+}
+
+static bool follow_operand(Beginning *b, Byte next)
+{
+    return (is_blank(next) && enter(b, BEHIND_OPERAND)) ||
+           (next == ',' && enter(b, BEFORE_OPERAND)) ||
+           (next == ';' && enter(b, BEHIND_LINE));
+}
+
+/* Whether a line of the right shape has the byte `next` behind what b stands for. */
+static bool follow(Beginning *b, Byte next)
+{
+    switch (b->spot) {
+    case BEFORE_HEAD:
+        return is_blank(next) || (next == '@' && enter(b, GUARD_SIGN)) ||
+               (is_name_byte(next) && enter(b, HEAD_NAME));
+    case GUARD_SIGN:
+        return (next == '!' && enter(b, GUARD_NOT)) || (next == '%' && enter(b, GUARD_REGISTER));
+    case GUARD_NOT:
+        return next == '%' && enter(b, GUARD_REGISTER);
+    case GUARD_REGISTER:
+        return follow_register(b, next) ||
+               (is_spelled(b) && is_blank(next) && enter(b, BEHIND_GUARD));
+    case BEHIND_GUARD:
+        return is_blank(next) || (is_name_byte(next) && enter(b, HEAD_NAME));
+    case HEAD_NAME:
+        return is_name_byte(next) || (next == '.' && enter(b, HEAD_DOT)) ||
+               (is_blank(next) && enter(b, BEFORE_OPERAND));
+    case HEAD_DOT:
+        return is_name_byte(next) && enter(b, HEAD_NAME);
+    case BEFORE_OPERAND:
+        return is_blank(next) || (next == '!' && enter(b, OPERAND_NOT)) ||
+               (next == '%' && enter(b, FIRST_REGISTER)) || (next == '_' && enter(b, FIRST_SINK));
+    case OPERAND_NOT:
+        return next == '%' && enter(b, LAST_REGISTER);
+    case FIRST_REGISTER:
+        if (follow_register(b, next))
+            return true;
+        return is_spelled(b) && ((next == '|' && enter(b, BAR)) ||
+                                 (next == '.' && enter(b, SELECTOR_DOT)) || follow_operand(b, next));
+    case FIRST_SINK:
+        return next == '|' && enter(b, BAR);
+    case BAR:
+        return (next == '%' && enter(b, LAST_REGISTER)) || (next == '_' && enter(b, BEHIND_OPERAND));
+    case LAST_REGISTER:
+        return follow_register(b, next) || (is_spelled(b) && follow_operand(b, next));
+    case SELECTOR_DOT:
+        return is_name_byte(next) && enter(b, SELECTOR_NAME);
+    case SELECTOR_NAME:
+        return is_name_byte(next) || follow_operand(b, next);
+    case BEHIND_OPERAND:
+        return follow_operand(b, next);
+    default:        /* behind `;` */
+        return is_blank(next);
+    }
+}
+
+/* The first byte with which the line begins as no line of the shape does, or its length. */
+static size_t place_of_shape(const Byte *p, size_t length)
+{
+    Beginning so_far = { BEFORE_HEAD, PERCENT };
+    for (size_t i = 0; i < length; i++)
+        if (!follow(&so_far, p[i]))
+            return i;
+    return length;
+}
+
+/* ------------------------------------------------------------------------
+ * The place of refusal 4.  All legal lists of modifiers are made, from the
+ * rows of the table, and the line is held against each.
+ * ------------------------------------------------------------------------ */
+
+enum { MODIFIERS_MOST = 5, LISTS_MOST = 5000 };      /* 1,600 are legal; opcodes of one row share theirs */
+
+static bool is_sat(Word w)    { return w == W_SAT; }
+static bool is_ftz(Word w)    { return w == W_FTZ; }
+static bool is_add(Word w)    { return w == W_ADD; }
+static bool is_s32(Word w)    { return w == W_S32; }
+static bool is_f32(Word w)    { return w == W_F32; }
+static bool is_cmp_op(Word w) { return w >= W_EQ && w <= W_NAN; }
+
+typedef struct {
+    bool (*has)(Word w);    /* NULL behind the last one */
+    bool may_lack;
+} Column;
+
+typedef struct {
+    Word first, last;       /* of the opcodes */
+    Column column[MODIFIERS_MOST + 1];
+} Row;
+
+#define T3 { is_video_type, false }, { is_video_type, false }, { is_video_type, false }
+#define T_T_CMP6 { is_video_type, false }, { is_video_type, false }, { is_cmp6, false }
+
+static const Row rows[] = {
+    { W_VADD, W_VMAX, { T3, { is_sat, true }, { is_op2, true } } },
+    { W_VADD2, W_VMAX2, { T3, { is_sat, true }, { is_add, true } } },
+    { W_VADD4, W_VMAX4, { T3, { is_sat, true }, { is_add, true } } },
+    { W_VSET, W_VSET, { T_T_CMP6, { is_op2, true } } },
+    { W_VSET2, W_VSET2, { T_T_CMP6, { is_add, true } } },
+    { W_VSET4, W_VSET4, { T_T_CMP6, { is_add, true } } },
+    { W_SET, W_SET, { { is_cmp_op, false }, { is_bool_op, true }, { is_ftz, true },
+                      { is_set_dtype, false }, { is_type, false } } },
+    { W_SETP, W_SETP, { { is_cmp_op, false }, { is_bool_op, true }, { is_ftz, true },
+                        { is_type, false } } },
+    { W_SELP, W_SELP, { { is_type, false } } },
+    { W_SLCT, W_SLCT, { { is_type, false }, { is_s32, false } } },
+    { W_SLCT, W_SLCT, { { is_ftz, true }, { is_type, false }, { is_f32, false } } }
+};
+
+typedef struct {
+    Word first, last;       /* of the opcodes that have it */
+    unsigned length;
+    Word word[MODIFIERS_MOST];
+} ModifierList;
+
+static ModifierList legal_list[LISTS_MOST];
+static unsigned legal_lists;
+
+/* What the table says beside its rows: CmpOp by stype, `ftz` only with stype f32. */
+static bool goes_together(const ModifierList *list)
+{
+    Word stype = list->word[list->length - 1];
+    if (list->first != W_SET && list->first != W_SETP)
+        return true;
+    for (unsigned i = 0; i < list->length; i++)
+        if (list->word[i] == W_FTZ && stype != W_F32)
+            return false;
+    return compares(list->word[0], stype);
+}
+
+/* Makes all lists that go on behind `list` with the columns from `column` on. */
+static void make_lists(ModifierList list, const Column *column)
+{
+    if (column->has == NULL) {
+        if (goes_together(&list))
+            legal_list[legal_lists++] = list;
+        return;
+    }
+    if (column->may_lack)
+        make_lists(list, column + 1);
+    list.length++;
+    for (int w = W_VADD; w < WORD_COUNT; w++)
+        if (column->has((Word)w)) {
+            list.word[list.length - 1] = (Word)w;
+            make_lists(list, column + 1);
+        }
+}
+
+static void make_all_lists(void)
+{
+    for (size_t i = 0; i < sizeof rows / sizeof rows[0]; i++)
+        make_lists((ModifierList){ rows[i].first, rows[i].last, 0, { W_NONE } }, rows[i].column);
+}
+
+/* With how many modifiers of the line, from the first on, some legal list begins. */
+static unsigned modifiers_on_a_list(const Line *line)
+{
+    unsigned most = 0;
+    for (unsigned i = 0; i < legal_lists; i++) {
+        const ModifierList *list = &legal_list[i];
+        unsigned same = 0;
+        if (line->name[0] < list->first || line->name[0] > list->last)
+            continue;
+        while (same < list->length && line->name[1 + same] == list->word[same])
+            same++;
+        if (same > most)
+            most = same;
+    }
+    return most;
+}
+
+static const Byte *place_of_modifier(const Line *line)
+{
+    if (legal_lists == 0)
+        make_all_lists();
+    unsigned right = modifiers_on_a_list(line);
+    return right + 1 < line->names ? line->name_at[right + 1] : line->head.at + line->head.length;
+}
+
+/* ------------------------------------------------------------------------
+ * The place of refusal 5.  A legal list of operands under a head is one or
+ * two rows of kinds; register numbers and equal pairs have no say in a kind.
+ * ------------------------------------------------------------------------ */
+
+typedef enum {
+    AN_R, AN_RD, A_P,       /* bare */
+    P_OR_NOT,               /* with optional `!` */
+    SETP_PLACES,
+    R_WITH_PART,            /* with a selector of scalar video */
+    R_PERHAPS_PART,
+    R_PERHAPS_MASK,
+    R_PERHAPS_LANES
+} Wanted;
+
+enum { WANTED_MOST = 4 };
+
+typedef struct {
+    unsigned length;
+    Wanted wanted[WANTED_MOST];
+} WantedList;
+
+static bool is_as_wanted(Operand o, Wanted wanted, Word op)
+{
+    Record any;
+    switch (wanted) {
+    case AN_R:            return is_bare(&o, FILE_R);
+    case AN_RD:           return is_bare(&o, FILE_RD);
+    case A_P:             return is_bare(&o, FILE_P);
+    case P_OR_NOT:        return o.form != PAIR && o.first.file == FILE_P && o.selector == 0;
+    case SETP_PLACES:     return read_setp_places(&o, &any);
+    case R_WITH_PART:     return is_word(&o) && o.selector != 0 && read_part(o.selector, &any.apart);
+    case R_PERHAPS_PART:  return is_word(&o) && read_part(o.selector, &any.apart);
+    case R_PERHAPS_MASK:  return is_word(&o) && read_mask(&o, lanes_of(op), &any.mask);
+    default:              return is_word(&o) && read_lane_selector(&o, lanes_of(op), 0, any.asel);
+    }
+}
+
+static Wanted by_width(Word type)
+{
+    return is_wide(type) ? AN_RD : AN_R;
+}
+
+/* The legal lists under the head of `rec`; returns how many. */
+static unsigned wanted_lists(const Record *rec, WantedList list[2])
+{
+    bool second = rec->second != W_NONE;
+    Wanted k;
+
+    if (is_simd(rec->op)) {
+        list[0] = (WantedList){ 4, { R_PERHAPS_MASK, R_PERHAPS_LANES, R_PERHAPS_LANES, AN_R } };
+        return 1;
+    }
+    switch (rec->op) {
+    case W_SET:
+        k = by_width(rec->atype);
+        list[0] = (WantedList){ second ? 4 : 3, { AN_R, k, k, P_OR_NOT } };
+        return 1;
+    case W_SETP:
+        k = by_width(rec->atype);
+        list[0] = (WantedList){ second ? 4 : 3, { SETP_PLACES, k, k, P_OR_NOT } };
+        return 1;
+    case W_SELP:
+        k = by_width(rec->dtype);
+        list[0] = (WantedList){ 4, { k, k, k, A_P } };
+        return 1;
+    case W_SLCT:
+        k = by_width(rec->dtype);
+        list[0] = (WantedList){ 4, { k, k, k, AN_R } };
+        return 1;
+    default:        /* scalar video */
+        list[0] = (WantedList){ second ? 4 : 3, { AN_R, R_PERHAPS_PART, R_PERHAPS_PART, AN_R } };
+        list[1] = (WantedList){ 4, { R_WITH_PART, R_PERHAPS_PART, R_PERHAPS_PART, AN_R } };
+        return second ? 1 : 2;
+    }
+}
+
+/* Whether the first `count` operands of the line begin the list. */
+static bool begin_list(const Line *line, unsigned count, const WantedList *list, Word op)
+{
+    if (count > list->length)
+        return false;
+    for (unsigned i = 0; i < count; i++)
+        if (!is_as_wanted(line->operand[i], list->wanted[i], op))
+            return false;
+    return true;
+}
+
+static const Byte *place_of_operand(const Line *line, const Record *rec)
+{
+    WantedList list[2];
+    if (line->guarded && line->guard.file != FILE_P)
+        return line->guard_text.at;
+    unsigned lists = wanted_lists(rec, list);
+    for (unsigned count = 1; count <= line->operands; count++) {
+        bool begins = false;
+        for (unsigned i = 0; i < lists; i++)
+            begins = begins || begin_list(line, count, &list[i], rec->op);
+        if (!begins)
+            return line->operand[count - 1].text.at;
+    }
+    return line->operands_end;
+}
+
+/* ------------------------------------------------------------------------
+ * The places of refusals 6 and 7, and all places
+ * ------------------------------------------------------------------------ */
+
+static const Byte *second_place(const Operand *o)
+{
+    return o->text.at + o->bare + 1;        /* the bar is between them */
+}
+
+/* The first register of the line whose number is at or over its file's size. */
+static const Byte *place_of_number(const Line *line)
+{
+    if (line->guarded && !number_fits(line->guard))
+        return line->guard_text.at + (line->guard_negated ? 2 : 1);
+    for (unsigned i = 0; i < line->operands; i++) {
+        const Operand *o = &line->operand[i];
+        if (!number_fits(o->first))
+            return o->text.at + (o->form == NEGATED ? 1 : 0);
+        if (o->form == PAIR && !number_fits(o->second))
+            return second_place(o);
+    }
+    return line->operands_end;      /* not reached: there is one */
+}
+
+static size_t place_of(Refusal refusal, const Byte *p, size_t length, const Line *line, const Record *rec)
+{
+    switch (refusal) {
+    case NO_SHAPE:      return place_of_shape(p, length);
+    case NO_OPCODE:     return (size_t)(line->head.at - p);
+    case BAD_MODIFIERS: return (size_t)(place_of_modifier(line) - p);
+    case BAD_OPERANDS:  return (size_t)(place_of_operand(line, rec) - p);
+    case BAD_NUMBER:    return (size_t)(place_of_number(line) - p);
+    case SAME_PLACES:   return (size_t)(second_place(&line->operand[0]) - p);
+    default:            return 0;
+    }
+}
+
+static bool has_place(Refusal refusal)
+{
+    return refusal >= NO_SHAPE && refusal <= SAME_PLACES;
+}
+
+/*
+ * Reads the line of `length` bytes at `p`.  When it is accepted, `line`
+ * holds its texts, without default masks and selectors, and `rec` the record;
+ * when it is refused with 2 to 7, `line` holds the place.
+ */
+static Refusal read_line(const Byte *p, size_t length, Line *line, Record *rec)
+{
+    Refusal refusal = judge_line(p, length, line, rec);
+    line->place = place_of(refusal, p, length, line, rec);
+    return refusal;
 }
 
 /* ------------------------------------------------------------------------
@@ -1109,6 +1518,17 @@ static inline void put_standard_line(const Line *line)
     put_byte(';');
 }
 
+/* The number and, of refusals 2 to 7, the place. */
+static void put_refusal(Refusal refusal, const Line *line)
+{
+    put_string("refused ");
+    put_decimal(refusal);
+    if (has_place(refusal)) {
+        put_byte(' ');
+        put_decimal((unsigned)line->place);
+    }
+}
+
 static void put_register(const char *file, unsigned number)
 {
     begin_line();
@@ -1154,8 +1574,8 @@ static void run_listing(const Byte *p, const Byte *end, Machine *m)
         begin_line();
         put_decimal(number);
         if (refusal != ACCEPTED) {
-            put_string(" refused ");
-            put_decimal(refusal);
+            put_byte(' ');
+            put_refusal(refusal, &line);
         } else {
             put_string(execute(m, &rec) ? " done " : " skipped ");
             put_standard_line(&line);
@@ -1281,12 +1701,11 @@ static void put_probe_answer(const Byte *p, size_t length, Machine *m)
 {
     Line line;
     Record rec;
-    unsigned refusal = read_line(p, length, &line, &rec);
+    Refusal refusal = read_line(p, length, &line, &rec);
     if (refusal == ACCEPTED && has_byte_over_1(m->p))
         refusal = BAD_PREDICATE;
     if (refusal != ACCEPTED) {
-        put_string("refused ");
-        put_decimal(refusal);
+        put_refusal(refusal, &line);
     } else {
         bool done = execute(m, &rec);
         put_string(done ? "done " : "skipped ");

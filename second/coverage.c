@@ -465,6 +465,274 @@ static void declare_tiny_choices(void)
     }
 }
 
+/* ---- what can occur, from request T-05: places ---- */
+
+/* The pieces of the shape, by the least line that ends in each. */
+static const char *const pieces[] = {
+    "", " ", "@", "@!", "@%", "@%r", "@%p", "@%p0", "@%p1", "@%p12", "@%p123", "@%p1 ", "x", "x.", "x ", "x %r1,", "x %r1, ",
+    "x !", "x !%", "x !%r", "x !%p", "x !%p0", "x !%p1", "x !%p12", "x !%p123",
+    "x %", "x %r", "x %p", "x %p0", "x %p1", "x %p12", "x %p123",
+    "x _", "x _|", "x _|%", "x _|%r", "x _|%p", "x _|%p0", "x _|%p1", "x _|%p12", "x _|%p123", "x _|_",
+    "x %r1.", "x %r1.b", "x %r1 ", "x %r1;", "x %r1; "
+};
+enum { GUARD_PIECE = 4, HEAD_PIECE = 12, COMMA_PIECE = 15, NEGATED_PIECE = 17, FIRST_PIECE = 25, SECOND_PIECE = 34, END_PIECE = 44 };
+
+static const char *const byte_classes[] = {
+    "a space", "a tab", "a digit", "r", "d", "p", "another letter", "a capital", "a dot", "a comma", "a semicolon", "a bar",
+    "_", "!", "@", "%", "another mark", "a control byte", "a byte over 127"
+};
+static const Byte class_example[] = { ' ', '\t', '5', 'r', 'd', 'p', 'x', 'X', '.', ',', ';', '|', '_', '!', '@', '%', '#', 1, 0x80 };
+
+static unsigned byte_class(Byte b)
+{
+    const Byte *same = memchr(class_example, b, sizeof class_example);
+    return same != NULL ? (unsigned)(same - class_example) : b >= 0x80 ? 18 : b < ' ' || b == 0x7F ? 17 : is_digit(b) ? 2
+         : is_name_byte(b) ? 6 : b >= 'A' && b <= 'Z' ? 7 : 16;
+}
+
+/* What the first `place` bytes of the line end in. */
+static unsigned piece_at(const Byte *p, size_t place)
+{
+    Beginning b = { BEFORE_HEAD, PERCENT };
+    bool negated = false;
+    for (size_t i = 0; i < place; i++) {
+        if (b.spot != LAST_REGISTER)
+            negated = b.spot == OPERAND_NOT;
+        follow(&b, p[i]);
+    }
+    size_t text = place;
+    while (text > 0 && is_blank(p[text - 1]))
+        text--;
+    bool blanks = text < place;
+    switch (b.spot) {
+    case BEFORE_HEAD:    return blanks;
+    case GUARD_SIGN:     return 2;
+    case GUARD_NOT:      return 3;
+    case GUARD_REGISTER: return GUARD_PIECE + b.spelled;
+    case BEHIND_GUARD:   return HEAD_PIECE - 1;
+    case HEAD_NAME:      return HEAD_PIECE;
+    case HEAD_DOT:       return HEAD_PIECE + 1;
+    case BEFORE_OPERAND: return !blanks ? COMMA_PIECE : p[text - 1] == ',' ? COMMA_PIECE + 1 : COMMA_PIECE - 1;
+    case OPERAND_NOT:    return NEGATED_PIECE;
+    case FIRST_REGISTER: return FIRST_PIECE + b.spelled;
+    case FIRST_SINK:     return SECOND_PIECE - 2;
+    case BAR:            return SECOND_PIECE - 1;
+    case LAST_REGISTER:  return (negated ? NEGATED_PIECE + 1 : SECOND_PIECE) + b.spelled;
+    case SELECTOR_DOT:   return END_PIECE - 2;
+    case SELECTOR_NAME:  return END_PIECE - 1;
+    case BEHIND_OPERAND: return blanks ? END_PIECE : END_PIECE - 3;
+    default:             return blanks ? END_PIECE + 2 : END_PIECE + 1;
+    }
+}
+
+static void declare_shape_places(void)
+{
+    for EACH(i, pieces) {
+        const Byte *text = (const Byte *)pieces[i];
+        size_t length = strlen(pieces[i]);
+        if (piece_at(text, length) != i)
+            stop("a piece that is not found", pieces[i]);
+        if (i <= END_PIECE)
+            kind("place 2: unfinished behind `%s`", pieces[i]);
+        for EACH(c, byte_classes) {
+            Beginning b = { BEFORE_HEAD, PERCENT };
+            for (size_t k = 0; k < length; k++)
+                follow(&b, text[k]);
+            if (!follow(&b, class_example[c]))
+                kind("place 2: behind `%s` %s", pieces[i], byte_classes[c]);
+        }
+    }
+    kind("place 2: at 159, a wrong byte");
+    kind("place 2: at 159, unfinished");
+    kind("place 2: at 160, unfinished");
+    for (unsigned i = 0; i < 5; i++)
+        kind("place 2: behind %u commas", i);
+}
+
+/* Opcodes of one kind have the same lists. */
+static const char *const families[] = { "scalar", "vset", "vset by lanes", "lanes", "set", "setp", "selp", "slct" };
+
+static unsigned family(Word op)
+{
+    return op <= W_VMAX ? 0 : op == W_VSET ? 1 : op == W_SET ? 4 : op == W_SETP ? 5 : op == W_SELP ? 6 : op == W_SLCT ? 7 : is_vset(op) ? 2 : 3;
+}
+
+static const char *const word_classes[] = { "u32 or s32", "another type", "CMP6", "another CmpOp", "OP2", "BoolOp", "sat", "ftz", "an opcode", "no word" };
+
+static unsigned word_class(Word w)
+{
+    return is_video_type(w) ? 0 : is_type(w) ? 1 : is_cmp6(w) ? 2 : is_cmp_op(w) ? 3 : is_op2(w) ? 4 : is_bool_op(w) ? 5
+         : w == W_SAT ? 6 : w == W_FTZ ? 7 : is_opcode(w) ? 8 : 9;
+}
+
+/* The beginnings of legal lists: what stands there and which words may follow. */
+typedef struct {
+    Word op;
+    unsigned length;
+    Word word[MODIFIERS_MOST];
+    uint64_t next;              /* by word */
+} ListStart;
+
+enum { STARTS_MOST = 4096 };
+
+static ListStart starts[STARTS_MOST];
+
+static ListStart *start_of(Word op, const Word *word, unsigned length)
+{
+    uint32_t hash = op;
+    for (unsigned i = 0; i < length; i++)
+        hash = (hash * 61 + word[i]) * 16777619u;
+    unsigned at = hash % STARTS_MOST;
+    while (starts[at].op != W_NONE && (starts[at].op != op || starts[at].length != length ||
+                                       memcmp(starts[at].word, word, length * sizeof(Word)) != 0))
+        at = (at + 1) % STARTS_MOST;
+    starts[at].op = op;
+    starts[at].length = length;
+    memcpy(starts[at].word, word, length * sizeof(Word));
+    return &starts[at];
+}
+
+/* alone's legal lists are the heads declared above, each once; then the beginnings of those of one opcode of a kind. */
+static void check_lists(void)
+{
+    unsigned heads = 0, declared = 0;
+    make_all_lists();
+    for (unsigned i = 0; i < kind_count; i++)
+        declared += strncmp(kinds[i].name, "head: ", 6) == 0;
+    for (unsigned i = 0; i < legal_lists; i++) {
+        const ModifierList *list = &legal_list[i];
+        for (unsigned n = 0; n <= list->length; n++)
+            start_of(list->first, list->word, n)->next |= n < list->length ? UINT64_C(1) << list->word[n] : 0;
+        for (int op = (int)list->first; op <= (int)list->last; op++) {
+            char name[NAME_MOST];
+            int length = snprintf(name, sizeof name, "head: %s", spelling[op]);
+            for (unsigned n = 0; n < list->length; n++)
+                length += snprintf(name + length, sizeof name - (size_t)length, ".%s", spelling[list->word[n]]);
+            if (*slot_of(name) == 0)
+                stop("not a head", name);
+            heads++;
+        }
+        for (unsigned j = 0; j < i; j++)
+            if (legal_list[j].first == list->first && legal_list[j].length == list->length &&
+                memcmp(legal_list[j].word, list->word, list->length * sizeof(Word)) == 0)
+                stop("a list twice", spelling[list->first]);
+    }
+    if (heads != declared)
+        stop("some head is missing", "legal_list");
+}
+
+static void declare_modifier_places(void)
+{
+    static bool longer[64][MODIFIERS_MOST + 2], classes[8][MODIFIERS_MOST + 2][10], is_whole[64][MODIFIERS_MOST + 2];
+    for EACH(i, starts) {
+        const ListStart *s = &starts[i];
+        if (s->op == W_NONE)
+            continue;
+        for (int w = W_OTHER; w < WORD_COUNT; w++)
+            if ((s->next >> w & 1) == 0)
+                classes[family(s->op)][s->length + 1][word_class((Word)w)] = true;
+    }
+    for (unsigned i = 0; i < legal_lists; i++) {
+        const ModifierList *list = &legal_list[i];
+        for (int op = (int)list->first; op <= (int)list->last; op++)
+            for (unsigned n = 0; n <= list->length; n++)
+                (n < list->length ? longer : is_whole)[op][n] = true;
+    }
+    for (int op = W_VADD; op <= W_SLCT; op++)
+        for (unsigned n = 0; n <= MODIFIERS_MOST; n++) {
+            if (longer[op][n] || is_whole[op][n])
+                kind("place 4: %s modifier %u", spelling[op], n + 1);
+            if (longer[op][n] && (!is_whole[op][n] || op == W_SET || op == W_SETP || op == W_SLCT))
+                kind("place 4: %s end behind %u", spelling[op], n);
+        }
+    for EACH(f, families)
+        for (unsigned n = 1; n <= MODIFIERS_MOST + 1; n++)
+            for EACH(c, word_classes)
+                if (classes[f][n][c])
+                    kind("place 4: %s modifier %u is %s", families[f], n, word_classes[c]);
+    for (int op = W_SET; op <= W_SETP; op++)
+        for (int cmp = W_EQ; cmp <= W_NAN; cmp++) {
+            for (int stype = W_U32; stype <= W_F64; stype++) {
+                if (!compares((Word)cmp, (Word)stype))
+                    kind("place 4: %s %s and %s", spelling[op], spelling[cmp], spelling[stype]);
+                if (compares((Word)cmp, W_F32) && stype != W_F32)
+                    kind("place 4: %s %s, ftz and %s", spelling[op], spelling[cmp], spelling[stype]);
+            }
+            if (!compares((Word)cmp, W_F32))
+                kind("place 4: %s %s and ftz", spelling[op], spelling[cmp]);
+        }
+    kind("place 4: end, one blank behind it");
+    kind("place 4: end, more blanks behind it");
+}
+
+static bool has_forms(Word op) { return is_scalar(op) || op == W_SET || op == W_SETP; }
+
+/* An opcode with or without OP2 or BoolOp. */
+static const char *form_name(Word op, bool second)
+{
+    static char name[32];
+    snprintf(name, sizeof name, "%s%s", spelling[op], !has_forms(op) ? "" : second ? " with" : " without");
+    return name;
+}
+
+/* Whether an operand of that fault can be wrong there: bare ones of the file that every list has are not. */
+static bool can_be_wrong(Word op, unsigned at, unsigned fault)
+{
+    bool by_width = at < 3 && ((op >= W_SET && op <= W_SETP && at > 0) || op == W_SELP || op == W_SLCT);
+    bool predicate = (op == W_SETP && at == 0) || (at == 3 && op >= W_SET && op <= W_SELP);
+    return fault == 2 ? by_width || predicate : fault == 4 ? !predicate : true;
+}
+
+static void declare_operand_places(Word op, bool second)
+{
+    unsigned length = has_forms(op) && !second ? 3 : 4;
+    const char *name = form_name(op, second);
+    kind("place 5: %s guard", name);
+    for (unsigned at = 0; at < 4; at++) {
+        if (at > 0 && (at < length || is_scalar(op)))
+            kind("place 5: %s end behind %u", name, at);
+        if (at < length || is_scalar(op))
+            for EACH(f, faults)
+                if (can_be_wrong(op, at, f))
+                    kind("place 5: %s operand %u is %s", name, at, faults[f]);
+    }
+    kind("place 5: %s operand %u too many", name, length);
+    if (is_scalar(op) && !second)
+        kind("place 5: %s operand 4 too many", name);
+}
+
+static void declare_places(void)
+{
+    check_lists();
+    declare_shape_places();
+    declare_modifier_places();
+    for (int op = W_VADD; op <= W_SLCT; op++) {
+        declare_operand_places((Word)op, true);
+        if (has_forms((Word)op))
+            declare_operand_places((Word)op, false);
+        for (unsigned role = 0; role < (op == W_SETP ? 6 : 5); role++) {
+            kind("place 6: %s %s", spelling[op], roles[role]);
+            if (role != 3)
+                kind("place 6: %s %s, and one behind it", spelling[op], roles[role]);
+        }
+        if (op == W_SET || op == W_SETP)
+            kind("place 6: %s !c", spelling[op]);
+    }
+    kind("place 5: end, no blank behind it");
+    kind("place 5: end, blanks behind it");
+    kind("place 5: end behind a written default with 2");
+    kind("place 5: end behind a written default with 4");
+    kind("place 5: a number too great in front");
+    kind("place 5: a number too great there or behind");
+    kind("place 5: one predicate twice in front");
+    for (int n = 3; n <= 7; n++)
+        for (int k = 0; k < 4; k++)
+            kind("place %d: %s, %s", n, k & 1 ? "a guard" : "no guard", k & 2 ? "blanks in front" : "no blank in front");
+    for (int n = 2; n <= 7; n++)
+        for (int digits = n == 7 ? 2 : 1; digits <= 3; digits++)
+            kind("place %d: of %d digits", n, digits);
+}
+
 static void declare_lines(void)
 {
     kind("answer: done");
@@ -1076,10 +1344,214 @@ static void count_byte_too_many(const Byte *p, size_t length)
         memcpy(copy, p, i);
         memcpy(copy + i, p + i + 1, length - i - 1);
         copy[length - 1] = '\n';
-        if (read_line(copy, length - 1, &line, &rec) == ACCEPTED) {
+        if (judge_line(copy, length - 1, &line, &rec) == ACCEPTED) {
             hit("one byte too many: %02X", p[i]);
             return;
         }
+    }
+}
+
+/* ---- places (request T-05): each is held against the definition, by the reader alone, and counted by its piece ---- */
+
+/* Whether some line of the right shape begins with the first `count` bytes: if so, one of these ends makes one. */
+static bool begins_shape(const Byte *p, size_t count)
+{
+    static const char *const ends[] = {
+        "", ";", "0;", "r0;", "%r0;", " %r0;", "a %r0;", " a %r0;", "0 a %r0;", "p0 a %r0;", "%p0 a %r0;", "|_;", "_;", "a;"
+    };
+    for EACH(i, ends) {
+        Byte copy[LINE_MOST + 32];
+        Line any;
+        size_t more = strlen(ends[i]);
+        memcpy(copy, p, count);
+        memcpy(copy + count, ends[i], more);
+        copy[count + more] = '\n';
+        if (read_shape(copy, &any))
+            return true;
+    }
+    return false;
+}
+
+/* Whether some legal list begins with the first `count` operands: if so, one with bare registers behind them. */
+static bool begins_operands(const Line *line, const Record *rec, unsigned count)
+{
+    static const File files[] = { FILE_R, FILE_RD, FILE_P };
+    for (unsigned length = count < 3 ? 3 : count; length <= 4; length++)
+        for (unsigned n = 0; n < 81; n++) {
+            Line copy = *line;
+            Record other = *rec;
+            unsigned rest = n;
+            copy.operands = length;
+            for (unsigned i = count; i < length; i++, rest /= 3)
+                copy.operand[i] = operand_of(PLAIN, files[rest % 3], FILE_R, 0);
+            if (rest == 0 && read_record_operands(&copy, &other))
+                return true;
+        }
+    return false;
+}
+
+static void check_shape_place(const Byte *p, size_t length, size_t place)
+{
+    if (place > length || !begins_shape(p, place) || (place < length && begins_shape(p, place + 1)))
+        stop("a place of refusal 2 is not by the definition", "alone.c");
+}
+
+/* The operand at the place, or how many there are if it is behind the last one. */
+static unsigned operand_at(const Byte *p, const Line *line)
+{
+    unsigned at = 0;
+    while (at < line->operands && at < OPERANDS_KEPT && line->operand[at].text.at != p + line->place)
+        at++;
+    return at;
+}
+
+static void check_operand_place(const Byte *p, const Line *line, const Record *rec)
+{
+    bool wrong_guard = line->guarded && line->guard.file != FILE_P;
+    unsigned at = operand_at(p, line);
+    bool right = wrong_guard ? line->guard_text.at == p + line->place
+               : at == line->operands ? line->operands_end == p + line->place && begins_operands(line, rec, at)
+               : begins_operands(line, rec, at) && !(at < 4 && begins_operands(line, rec, at + 1));
+    if (!right)
+        stop("a place of refusal 5 is not by the definition", "alone.c");
+}
+
+static void count_shape_place(const Byte *p, size_t length, size_t place)
+{
+    const char *piece = pieces[piece_at(p, place)];
+    unsigned commas = 0;
+    if (place == length)
+        hit("place 2: unfinished behind `%s`", piece);
+    else
+        hit("place 2: behind `%s` %s", piece, byte_classes[byte_class(p[place])]);
+    if (place >= 159)
+        hit("place 2: at %u, %s", (unsigned)place, place == length ? "unfinished" : "a wrong byte");
+    for (size_t i = 0; i < place; i++)
+        commas += p[i] == ',';
+    if (commas < 5)
+        hit("place 2: behind %u commas", commas);
+}
+
+/* CmpOp, `ftz` and stype that do not go together. */
+static void count_comparison_place(const Byte *p, const Line *line)
+{
+    const Word *m = line->name + 1;
+    Word op = line->name[0], cmp = *m;
+    const Byte *place = p + line->place;
+    unsigned at = 2;
+    bool ftz;
+    if (!is_cmp_op(cmp))
+        return;
+    at += is_bool_op(line->name[at]);
+    ftz = line->name[at] == W_FTZ;
+    if (ftz && line->name_at[at] == place) {
+        if (!compares(cmp, W_F32))
+            hit("place 4: %s %s and ftz", spelling[op], spelling[cmp]);
+        return;
+    }
+    at += ftz;
+    at += op == W_SET;
+    if (at < line->names && at < NAMES_KEPT && line->name_at[at] == place && is_type(line->name[at])) {
+        if (ftz)
+            hit("place 4: %s %s, ftz and %s", spelling[op], spelling[cmp], spelling[line->name[at]]);
+        else
+            hit("place 4: %s %s and %s", spelling[op], spelling[cmp], spelling[line->name[at]]);
+    }
+}
+
+static void count_modifier_place(const Byte *p, const Line *line)
+{
+    Word op = line->name[0];
+    const Byte *end = line->head.at + line->head.length;
+    if (end == p + line->place) {
+        hit("place 4: %s end behind %u", spelling[op], line->names - 1);
+        hit("place 4: end, %s behind it", is_blank(end[1]) ? "more blanks" : "one blank");
+        return;
+    }
+    unsigned at = 1;
+    while (at < NAMES_KEPT && line->name_at[at] != p + line->place)
+        at++;
+    hit("place 4: %s modifier %u", spelling[op], at);
+    hit("place 4: %s modifier %u is %s", families[family(op)], at, word_classes[word_class(line->name[at])]);
+    if (op == W_SET || op == W_SETP)
+        count_comparison_place(p, line);
+}
+
+static void count_operand_place(const Byte *p, const Line *line, const Record *rec)
+{
+    const char *name = form_name(rec->op, rec->second != W_NONE);
+    const Byte *place = p + line->place;
+    unsigned at = operand_at(p, line);
+    if (line->guarded && line->guard_text.at == place) {
+        hit("place 5: %s guard", name);
+    } else if (at == line->operands) {
+        hit("place 5: %s end behind %u", name, at);
+        hit("place 5: end, %s behind it", is_blank(*place) ? "blanks" : "no blank");
+        const Operand *last = &line->operand[at - 1];
+        if (is_simd(rec->op) && at == 3 && last->selector == (lanes_of(rec->op) == 2 ? key_of((const Byte *)"h32", 3) : key_of((const Byte *)"b7654", 5)))
+            hit("place 5: end behind a written default with %u", lanes_of(rec->op));
+    } else {
+        const Operand *o = &line->operand[at];
+        bool four = rec->second != W_NONE || !has_forms(rec->op) || (is_scalar(rec->op) && line->operand[0].selector != 0);
+        if (at == (four ? 4u : 3u))
+            hit("place 5: %s operand %u too many", name, at);
+        else
+            hit("place 5: %s operand %u is %s", name, at, faults[o->form == NEGATED ? 0 : o->form == PAIR ? 1 : o->selector != 0 ? 5 : 2 + (unsigned)o->first.file]);
+    }
+    for (unsigned i = 0; i < line->operands && i < OPERANDS_KEPT; i++) {
+        const Operand *o = &line->operand[i];
+        if (!number_fits(o->first) || (o->form == PAIR && !number_fits(o->second)))
+            hit("place 5: a number too great %s", o->text.at < place ? "in front" : "there or behind");
+    }
+    const Operand *d = &line->operand[0];
+    if (rec->op == W_SETP && d->form == PAIR && d->text.at < place && d->first.file == FILE_P && d->second.file == FILE_P && d->first.number == d->second.number)
+        hit("place 5: one predicate twice in front");
+}
+
+static void count_number_place(const Byte *p, const Line *line, const Record *rec)
+{
+    const Byte *place = p + line->place;
+    unsigned over = 0, first = 0;               /* how many are over; by role the one at the place */
+    if (line->guarded && !number_fits(line->guard) && ++over == 1)
+        first = 4;
+    for (unsigned i = 0; i < line->operands; i++) {
+        const Operand *o = &line->operand[i];
+        if (!number_fits(o->first) && ++over == 1)
+            first = i;
+        if (o->form == PAIR && !number_fits(o->second) && ++over == 1)
+            first = 5;
+    }
+    const Byte *at = first == 4 ? line->guard_text.at : first == 5 ? (const Byte *)memchr(line->operand[0].text.at, '|', LINE_MOST) : line->operand[first].text.at;
+    if (*place != '%' || memchr(at, '%', LINE_MOST) != place)
+        stop("a place of refusal 6 is not by the definition", "alone.c");
+    hit(over > 1 && first != 3 ? "place 6: %s %s, and one behind it" : "place 6: %s %s", spelling[rec->op], roles[first]);
+    if (first == 3 && line->operand[3].form == NEGATED)
+        hit("place 6: %s !c", spelling[rec->op]);
+}
+
+static void count_place(const Byte *p, size_t length, const Line *line, const Record *rec, Refusal refusal)
+{
+    size_t place = line->place;
+    hit("place %d: of %d digits", refusal, place < 10 ? 1 : place < 100 ? 2 : 3);
+    if (refusal == NO_SHAPE) {
+        check_shape_place(p, length, place);
+        count_shape_place(p, length, place);
+        return;
+    }
+    hit("place %d: %s, %s", refusal, line->guarded ? "a guard" : "no guard", is_blank(p[0]) ? "blanks in front" : "no blank in front");
+    switch (refusal) {
+    case BAD_MODIFIERS:
+        count_modifier_place(p, line);
+        break;
+    case BAD_OPERANDS:
+        check_operand_place(p, line, rec);
+        count_operand_place(p, line, rec);
+        break;
+    case BAD_NUMBER:
+        count_number_place(p, line, rec);
+        break;
+    default:
+        break;
     }
 }
 
@@ -1119,6 +1591,7 @@ static void count_refused(const Byte *p, size_t length, const Line *line, const 
     default:
         break;
     }
+    count_place(p, length, line, rec, refusal);
     if (refusal != NO_SHAPE)
         count_two_faults(line, refusal);
     if (length >= 158)
@@ -1261,6 +1734,7 @@ int main(int argc, char **argv)
     declare_values();
     declare_lane_arithmetic();
     declare_tiny_choices();
+    declare_places();
     read_tally(argv[1]);
     if (argc == 2)
         return report() > 0;

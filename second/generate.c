@@ -38,6 +38,9 @@ static bool percent(unsigned n) { return below(100) < n; }
 #define COUNT(a) (sizeof (a) / sizeof (a)[0])
 #define PICK(a) ((a)[below((unsigned)COUNT(a))])
 
+/* Chance is drawn in the order of the text, never twice among the arguments of one call: so each compiler makes the same listing. */
+static const char *some_sign(void) { return percent(50) ? "!" : ""; }
+
 /* ---- the listing ---- */
 
 enum { LISTING_MOST = 65536 };
@@ -312,10 +315,11 @@ static void add_scalar_source(Draft *d)
 static void add_scalar_operands(Draft *d, bool has_op2, bool clamped)
 {
     bool merge = clamped || (!has_op2 && percent(55));
+    unsigned n = destination_word();
     if (merge)
-        add_operand(d, "%%r%u.%s", destination_word(), PICK(parts));
+        add_operand(d, "%%r%u.%s", n, PICK(parts));
     else
-        add_operand(d, "%%r%u", destination_word());
+        add_operand(d, "%%r%u", n);
     for (int i = 0; i < 2; i++) {
         if (clamped)
             add_operand(d, "%%r%u", hot_word());
@@ -355,14 +359,19 @@ static void draft_vset(Draft *d)
 static void add_lane_source(Draft *d, unsigned n, unsigned lanes, const char *standard)
 {
     unsigned kind = below(100);
+    unsigned digit[4];
     if (kind < 30)
         add_operand(d, "%%r%u", n);
     else if (kind < 45)
         add_operand(d, "%%r%u.%s", n, standard);
-    else if (lanes == 2)
-        add_operand(d, "%%r%u.h%u%u", n, below(4), below(4));
-    else
-        add_operand(d, "%%r%u.b%u%u%u%u", n, below(8), below(8), below(8), below(8));
+    else {
+        for (unsigned i = 0; i < lanes; i++)
+            digit[i] = below(2 * lanes);
+        if (lanes == 2)
+            add_operand(d, "%%r%u.h%u%u", n, digit[0], digit[1]);
+        else
+            add_operand(d, "%%r%u.b%u%u%u%u", n, digit[0], digit[1], digit[2], digit[3]);
+    }
 }
 
 /* Operands of the forms with 2 and 4; the sources hold special parts if `special`. */
@@ -502,18 +511,20 @@ static void draft_slct(Draft *d)
 static void draft_good(Draft *d)
 {
     memset(d, 0, sizeof *d);
-    if (percent(25))
-        snprintf(d->guard, TEXT_MOST, "@%s%%p%u", percent(50) ? "!" : "", predicate());
+    if (percent(25)) {
+        const char *sign = some_sign();
+        snprintf(d->guard, TEXT_MOST, "@%s%%p%u", sign, predicate());
+    }
     unsigned kind = below(100);
-    if (kind < 26)      draft_scalar(d);
-    else if (kind < 33) draft_vset(d);
-    else if (kind < 38) draft_lanes(d, 2);
-    else if (kind < 43) draft_lanes(d, 4);
-    else if (kind < 50) draft_lane_arithmetic(d, 2);
-    else if (kind < 59) draft_lane_arithmetic(d, 4);
-    else if (kind < 77) draft_set(d, false);
-    else if (kind < 89) draft_set(d, true);
-    else if (kind < 92) draft_selp(d);
+    if (kind < 23)      draft_scalar(d);
+    else if (kind < 29) draft_vset(d);
+    else if (kind < 34) draft_lanes(d, 2);
+    else if (kind < 39) draft_lanes(d, 4);
+    else if (kind < 46) draft_lane_arithmetic(d, 2);
+    else if (kind < 55) draft_lane_arithmetic(d, 4);
+    else if (kind < 75) draft_set(d, false);
+    else if (kind < 87) draft_set(d, true);
+    else if (kind < 90) draft_selp(d);
     else                draft_slct(d);
 }
 
@@ -543,10 +554,12 @@ static void any_register(char *to)
         "0", "15", "16", "31", "32", "63", "64", "99", "100", "999", "1000", "00", "01",
         "063", "0000", "9999", "65536", "4294967296", "", "7", "1"
     };
-    if (percent(50))
-        snprintf(to, TEXT_MOST, "%s%s", PICK(files), PICK(edges));
+    bool edge = percent(50);
+    const char *file = PICK(files);
+    if (edge)
+        snprintf(to, TEXT_MOST, "%s%s", file, PICK(edges));
     else
-        snprintf(to, TEXT_MOST, "%s%u", PICK(files), below(16));
+        snprintf(to, TEXT_MOST, "%s%u", file, below(16));
 }
 
 static void any_operand(char *to)
@@ -604,13 +617,14 @@ static void spoil_names(Draft *d)
 {
     unsigned at = below(d->names);
     unsigned modifier = d->names > 1 ? 1 + below(d->names - 1) : 0;
+    unsigned to;
     switch (below(9)) {
     case 8: d->names = 1 + below(d->names); break;
     case 0: swap_texts(d->name[modifier], d->name[d->names > 1 ? 1 + below(d->names - 1) : 0]); break;
     case 1: if (d->names > 2) swap_texts(d->name[d->names - 1], d->name[d->names - 2]); break;
     case 2: insert_text(d->name, &d->names, NAMES_MOST, modifier, d->name[modifier]); break;
     case 3: remove_text(d->name, &d->names, modifier); break;
-    case 4: insert_text(d->name, &d->names, NAMES_MOST, below(d->names) + 1, PICK(any_names)); break;
+    case 4: to = below(d->names) + 1; insert_text(d->name, &d->names, NAMES_MOST, to, PICK(any_names)); break;
     case 5: snprintf(d->name[modifier], TEXT_MOST, "%s", PICK(any_names)); break;
     case 6: snprintf(d->name[0], TEXT_MOST, "%s", PICK(any_names)); break;
     default:
@@ -705,15 +719,24 @@ static void spoil_number(Draft *d)
 
 static void spoil_guard(Draft *d)
 {
+    const char *sign;
+    unsigned n;
     char made[TEXT_MOST];
     any_register(made);
     switch (below(5)) {
     case 0: snprintf(d->guard, TEXT_MOST, "@%.30s", made); break;
     case 1: snprintf(d->guard, TEXT_MOST, "@!%.30s", made); break;
-    case 2: snprintf(d->guard, TEXT_MOST, "@%s%%p%u", percent(50) ? "!" : "", below(24)); break;
-    case 3: snprintf(d->guard, TEXT_MOST, "@%%p%u.%.20s", below(16), PICK(any_selectors)); break;
+    case 2: sign = some_sign(); snprintf(d->guard, TEXT_MOST, "@%s%%p%u", sign, below(24)); break;
+    case 3: n = below(16); snprintf(d->guard, TEXT_MOST, "@%%p%u.%.20s", n, PICK(any_selectors)); break;
     default: snprintf(d->guard, TEXT_MOST, "%s", percent(50) ? "@!!%p1" : percent(50) ? "@" : "@_"); break;
     }
+}
+
+/* A guard that is no predicate. */
+static void wrong_guard(Draft *d, unsigned numbers)
+{
+    const char *sign = some_sign(), *file = percent(50) ? "rd" : "r";
+    snprintf(d->guard, TEXT_MOST, "@%s%%%s%u", sign, file, below(numbers));
 }
 
 /* ---- lines of lanes, mostly of request T-01, spoilt in one way each ---- */
@@ -723,6 +746,7 @@ static void spoil_lane_names(Draft *d)
 {
     static const char *const near[] = { "vavrg", "vadd3", "vsub1", "vavrg3", "vabsdiff3", "vabsdiff22", "vmin8", "vmax44", "varvg2", "varvg4" };
     static const char *const type[] = { "u64", "s64", "f32", "b32", "u16", "s16", "u8" };
+    unsigned at;
     d->names = 4;               /* the opcode and its types */
     switch (below(14)) {
     case 0: d->names = 3; break;
@@ -736,7 +760,7 @@ static void spoil_lane_names(Draft *d)
     case 8: if (percent(50)) add_name(d, "sat"); add_name(d, "add"); add_name(d, "add"); break;
     case 9: add_name(d, PICK(video_types)); break;
     case 10: insert_text(d->name, &d->names, NAMES_MOST, 1 + below(3), "sat"); break;
-    case 11: snprintf(d->name[1 + below(3)], TEXT_MOST, "%s", PICK(type)); break;
+    case 11: at = 1 + below(3); snprintf(d->name[at], TEXT_MOST, "%s", PICK(type)); break;
     case 12: snprintf(d->name[0], TEXT_MOST, "%s", PICK(near)); break;
     default: d->names = 1; break;
     }
@@ -763,8 +787,9 @@ static void spoil_lane_selector(Draft *d, unsigned lanes)
 static void spoil_lane_operand(Draft *d)
 {
     unsigned at = below(4), n = below(64);
+    const char *file;
     switch (below(6)) {
-    case 0: snprintf(d->operand[at], TEXT_MOST, "!%%%s%u", percent(50) ? "r" : "p", below(16)); break;
+    case 0: file = percent(50) ? "r" : "p"; snprintf(d->operand[at], TEXT_MOST, "!%%%s%u", file, below(16)); break;
     case 1: snprintf(d->operand[at], TEXT_MOST, percent(50) ? "%%r%u|%%r%u" : "%%r%u|_", n, 63 - n); break;
     case 2: snprintf(d->operand[at], TEXT_MOST, "%%rd%u", below(32)); break;
     case 3: snprintf(d->operand[at], TEXT_MOST, "%%p%u", below(16)); break;
@@ -778,7 +803,7 @@ static void spoil_lane_operand(Draft *d)
         if (percent(70))
             put_selector(d->operand[3], PICK(any_selectors));
         else
-            snprintf(d->guard, TEXT_MOST, "@%s%%r%s%u", percent(50) ? "!" : "", percent(50) ? "d" : "", below(32));
+            wrong_guard(d, 32);
         break;
     }
 }
@@ -999,6 +1024,474 @@ static void crowded(Line *line)
     put_bytes(line, ";");
 }
 
+/* ---- lines refused at each of their pieces (request T-05) ---- */
+
+enum { OPCODES = 24, PIECES = 47, SPELLED = 7, CLASSES = 19 };
+
+/* A legal draft of each opcode as likely. */
+static void draft_opcode(Draft *d, unsigned which)
+{
+    memset(d, 0, sizeof *d);
+    if (which < 5) {
+        draft_scalar(d);
+        snprintf(d->name[0], TEXT_MOST, "%s", scalar_opcodes[which]);
+    } else if (which == 5) {
+        draft_vset(d);
+    } else if (which < 8) {
+        draft_lanes(d, which == 6 ? 2 : 4);
+    } else if (which < 20) {
+        unsigned lanes = which < 14 ? 2 : 4;
+        draft_lane_arithmetic(d, lanes);
+        snprintf(d->name[0], TEXT_MOST, "%s%u", lane_opcodes[(which - 8) % 6], lanes);
+    } else if (which < 22) {
+        draft_set(d, which == 21);
+    } else if (which == 22) {
+        draft_selp(d);
+    } else {
+        draft_slct(d);
+    }
+}
+
+/* A register up to: 0 `%`, 1 `%r`, 2 the file, 3 the number 0, 4 to 6 a number of one to three digits. */
+static void put_register_start(Line *line, unsigned spelled)
+{
+    static const char *const files[] = { "%r", "%rd", "%p" };
+    char digits[4] = "";
+    switch (spelled) {
+    case 0: put_bytes(line, "%"); return;
+    case 1: put_bytes(line, "%r"); return;
+    case 2: put_bytes(line, files[1 + below(2)]); return;
+    case 3: digits[0] = '0'; break;
+    default:
+        digits[0] = (char)('1' + below(9));
+        for (unsigned i = 1; i < spelled - 3; i++)
+            digits[i] = (char)('0' + below(10));
+        break;
+    }
+    put_bytes(line, PICK(files));
+    put_bytes(line, digits);
+}
+
+static void put_some_register(Line *line) { put_register_start(line, 3 + below(4)); }
+
+/* An operand of the right shape, of any kind. */
+static void put_some_operand(Line *line)
+{
+    switch (below(4)) {
+    case 0: put_bytes(line, "!"); put_some_register(line); break;
+    case 1: put_some_register(line); put_bytes(line, "|"); put_some_register(line); break;
+    case 2: put_some_register(line); put_bytes(line, "."); put_bytes(line, PICK(any_selectors)); break;
+    default: put_some_register(line); break;
+    }
+}
+
+static void put_guard(Line *line)
+{
+    put_bytes(line, percent(50) ? "@" : "@!");
+    put_some_register(line);
+    put_blanks(line, 1 + below(3));
+}
+
+/* The guard up to the piece, 2 to 11. */
+static void put_guard_start(Line *line, unsigned piece)
+{
+    put_bytes(line, piece == 3 || (piece > 3 && percent(40)) ? "@!" : "@");
+    if (piece < 4)
+        return;
+    if (piece < 11) {
+        put_register_start(line, piece - 4);
+        return;
+    }
+    put_some_register(line);
+    put_blanks(line, 1 + below(3));
+}
+
+/* The head up to the piece: 12 in or behind a name, 13 a dot, else the blanks behind it. */
+static void put_head_start(Line *line, unsigned piece)
+{
+    Draft d;
+    draft_opcode(&d, below(OPCODES));
+    unsigned names = piece < 14 ? 1 + below(d.names) : d.names;
+    for (unsigned i = 0; i < names; i++) {
+        if (i > 0)
+            put_bytes(line, ".");
+        put_bytes(line, d.name[i]);
+    }
+    if (piece == 13)
+        put_bytes(line, ".");
+    if (piece > 13)
+        put_blanks(line, percent(70) ? 1 : 1 + below(4));
+}
+
+/* An operand up to the piece, 17 to 43. */
+static void put_operand_start(Line *line, unsigned piece)
+{
+    if (piece < 25) {
+        put_bytes(line, "!");
+        if (piece > 17)
+            put_register_start(line, piece - 18);
+    } else if (piece < 32) {
+        put_register_start(line, piece - 25);
+    } else if (piece < 42) {
+        if (piece == 32 || percent(40))
+            put_bytes(line, "_");
+        else
+            put_some_register(line);
+        if (piece > 32)
+            put_bytes(line, "|");
+        if (piece == 41)
+            put_bytes(line, "_");
+        else if (piece > 33)
+            put_register_start(line, piece - 34);
+    } else {
+        put_some_register(line);
+        put_bytes(line, ".");
+        if (piece == 43)
+            put_bytes(line, PICK(any_selectors));
+    }
+}
+
+/* The beginning of a line of the right shape: 0 nothing, 1 blanks, 2 on the guard, 12 on the head, 15 on the operands, 45 `;`, 46 and blanks. */
+static void begin_at(Line *line, unsigned piece)
+{
+    line->length = 0;
+    if (piece == 0)
+        return;
+    if (piece == 1 || percent(30))
+        put_blanks(line, 1 + below(4));
+    if (piece == 1)
+        return;
+    if (piece < 12) {
+        put_guard_start(line, piece);
+        return;
+    }
+    if (percent(25))
+        put_guard(line);
+    put_head_start(line, piece);
+    if (piece < 15)
+        return;
+    for (unsigned n = piece < 17 ? 1 + below(4) : below(4); n > 0; n--) {
+        put_some_operand(line);
+        put_blanks(line, percent(80) ? 0 : 1 + below(2));
+        put_bytes(line, ",");
+        if (n > 1 || piece > 16)
+            put_blanks(line, percent(60) ? 1 : below(3));
+    }
+    if (piece == 16)
+        put_blanks(line, 1 + below(3));
+    if (piece > 16 && piece < 44)
+        put_operand_start(line, piece);
+    if (piece < 44)
+        return;
+    put_some_operand(line);
+    put_blanks(line, piece == 44 ? 1 + below(3) : percent(80) ? 0 : 1);
+    if (piece > 44)
+        put_bytes(line, ";");
+    if (piece > 45)
+        put_blanks(line, 1 + below(3));
+}
+
+static Byte byte_of_class(unsigned class)
+{
+    static const char single[] = " \t0rdpxX.,;|_!@%";
+    static const char letters[] = "abcefghijklmnoqstuvwxyz", marks[] = "#$&'()*+-/:<=>?[\\]^`{}~\"";
+    switch (class) {
+    case 2: return (Byte)('0' + below(10));
+    case 6: return (Byte)letters[below(sizeof letters - 1)];
+    case 7: return (Byte)('A' + below(26));
+    case 16: return (Byte)marks[below(sizeof marks - 1)];
+    case 17: { Byte b = (Byte)below(33); return b == '\n' || b == '\t' || b == ' ' ? (Byte)(percent(50) ? 0x7F : '\r') : b; }
+    case 18: return (Byte)(128 + below(128));
+    default: return (Byte)single[class];
+    }
+}
+
+/* A beginning of each kind as likely, and often a byte behind it, of each class as likely. */
+static void broken_shape(Line *line)
+{
+    begin_at(line, below(PIECES));
+    if (!percent(12)) {
+        insert_byte(line, line->length, byte_of_class(below(CLASSES)));
+        if (percent(40)) {
+            Line rest;
+            begin_at(&rest, percent(50) ? 45 : below(PIECES));
+            size_t from = below((unsigned)rest.length + 1);
+            for (size_t i = from; i < rest.length && line->length < 150; i++)
+                insert_byte(line, line->length, rest.bytes[i]);
+        }
+    }
+    if (percent(6)) {           /* up to 158 to 161 bytes */
+        size_t wanted = 158 + below(4);
+        while (line->length > 0 && line->length < wanted)
+            insert_byte(line, 0, percent(80) ? ' ' : '\t');
+    }
+}
+
+/* ---- modifiers ---- */
+
+static const char *const other_types[] = { "b32", "f32", "b64", "u64", "s64", "f64" };
+static const char *const other_cmps[] = { "lo", "ls", "hi", "hs", "equ", "neu", "ltu", "leu", "gtu", "geu", "num", "nan" };
+
+static const char *word_of_class(void)
+{
+    switch (below(10)) {
+    case 0: return PICK(video_types);
+    case 1: return PICK(other_types);
+    case 2: return PICK(cmp6);
+    case 3: return PICK(other_cmps);
+    case 4: return PICK(op2);
+    case 5: return PICK(bool_op);
+    case 6: return "sat";
+    case 7: return "ftz";
+    case 8: return PICK(scalar_opcodes);
+    default: return percent(50) ? "x" : percent(50) ? "u16" : "u3";
+    }
+}
+
+/* set or setp with any comparison, with or without `ftz`, and any stype. */
+static void any_comparison(Draft *d)
+{
+    bool setp = percent(50);
+    unsigned cmp = below(18);
+    d->names = 0;
+    add_name(d, setp ? "setp" : "set");
+    add_name(d, cmp < 6 ? cmp6[cmp] : other_cmps[cmp - 6]);
+    if (percent(40))
+        add_name(d, PICK(bool_op));
+    if (percent(50))
+        add_name(d, "ftz");
+    if (!setp)
+        add_name(d, percent(50) ? PICK(video_types) : "f32");
+    add_name(d, PICK(types));
+}
+
+/* The longest list of modifiers of the opcode, and one more word. */
+static void one_too_many(Draft *d, unsigned which)
+{
+    d->names = 1;
+    for (unsigned i = which < 8 && which > 4 ? 1 : 0; i < 3 && which < 20; i++)
+        add_name(d, PICK(video_types));
+    if (which >= 5 && which < 8)
+        add_name(d, PICK(cmp6));
+    else if (which < 20)
+        add_name(d, "sat");
+    if (which < 20)
+        add_name(d, which < 6 ? PICK(op2) : "add");
+    if (which == 20 || which == 21) {
+        add_name(d, PICK(cmp_float));
+        add_name(d, PICK(bool_op));
+    }
+    if (which >= 20 && which != 22)
+        add_name(d, "ftz");
+    if (which == 20)
+        add_name(d, PICK(video_types));
+    if (which >= 22)
+        add_name(d, PICK(types));
+    if (which >= 20 && which != 22)
+        add_name(d, "f32");
+    add_name(d, word_of_class());
+}
+
+/* Each kind of opcode as likely, or each opcode. */
+static unsigned some_opcode(void)
+{
+    static const unsigned first[] = { 0, 5, 6, 8, 20, 21, 22, 23 }, count[] = { 5, 1, 2, 12, 1, 1, 1, 1 };
+    unsigned kind = below(8);
+    return percent(60) ? first[kind] + below(count[kind]) : below(OPCODES);
+}
+
+static void miss_modifiers(Draft *d)
+{
+    unsigned which = some_opcode(), kind = below(100);
+    draft_opcode(d, which);
+    unsigned at = 1 + below(d->names);          /* 1 to names: one behind the last too */
+    if (kind < 15)
+        d->names = 1 + below(d->names);
+    else if (kind < 34)
+        snprintf(d->name[at < d->names ? at : d->names - 1], TEXT_MOST, "%s", word_of_class());
+    else if (kind < 49)
+        insert_text(d->name, &d->names, NAMES_MOST, at, word_of_class());
+    else if (kind < 60)
+        one_too_many(d, which);
+    else if (kind < 64 && at + 1 < d->names)
+        swap_texts(d->name[at], d->name[at + 1]);
+    else
+        any_comparison(d);
+    if (d->names == 1 && percent(50))
+        snprintf(d->name[0], TEXT_MOST, "%s", PICK(scalar_opcodes));
+}
+
+/* ---- operands ---- */
+
+/* Each register of the text, with that chance, gets a number that its file has not. */
+static void put_over(char *text, unsigned chance)
+{
+    static const char *const r[] = { "64", "65", "99", "100", "128", "255", "999" };
+    static const char *const rd[] = { "32", "33", "63", "64", "100", "999" };
+    static const char *const p[] = { "16", "17", "31", "32", "64", "100", "999" };
+    char made[2 * TEXT_MOST];
+    size_t length = 0;
+    for (const char *from = text; *from != '\0' && length < TEXT_MOST - 8;) {
+        if (*from != '%' || !percent(chance)) {
+            made[length++] = *from++;
+            continue;
+        }
+        const char *number = from[1] == 'p' ? PICK(p) : from[2] == 'd' ? PICK(rd) : PICK(r);
+        int file = from[2] == 'd' ? 3 : 2;
+        length += (size_t)snprintf(made + length, 8, "%.*s%s", file, from, number);
+        for (from += file; *from >= '0' && *from <= '9'; from++)
+            continue;
+    }
+    made[length] = '\0';
+    memcpy(text, made, length + 1);
+}
+
+/* An operand of one kind: negated, a pair, one of each file, with a selector. */
+static void operand_of_kind(char *to, unsigned kind)
+{
+    unsigned n = below(16), m = (n + 1) % 16;
+    static const char *const pairs[] = { "%%p%u|%%p%u", "%%r%u|%%r%u", "%%p%u|%%r%u", "%%r%u|%%p%u", "%%p%u|_", "%%rd%u|_", "_|%%p%u", "_|%%rd%u", "_|_" };
+    switch (kind) {
+    case 0: snprintf(to, TEXT_MOST, percent(50) ? "!%%p%u" : percent(70) ? "!%%r%u" : "!%%rd%u", n); break;
+    case 1: {
+        const char *pair = PICK(pairs);
+        snprintf(to, TEXT_MOST, pair, n, m);
+        break;
+    }
+    case 2: snprintf(to, TEXT_MOST, "%%r%u", n); break;
+    case 3: snprintf(to, TEXT_MOST, "%%rd%u", n); break;
+    case 4: snprintf(to, TEXT_MOST, "%%p%u", n); break;
+    default: {
+        const char *selector = PICK(any_selectors);
+        snprintf(to, TEXT_MOST, percent(80) ? "%%r%u.%.20s" : percent(50) ? "%%rd%u.%.20s" : "%%p%u.%.20s", n, selector);
+        break;
+    }
+    }
+}
+
+static void wrong_operand(Draft *d)
+{
+    unsigned at = below(d->operands);
+    operand_of_kind(d->operand[at], below(6));
+}
+
+static void draft_guard(Draft *d)
+{
+    const char *sign = some_sign();
+    snprintf(d->guard, TEXT_MOST, "@%s%%p%u", sign, below(16));
+}
+
+static void miss_operands(Draft *d)
+{
+    unsigned kind = below(100);
+    draft_opcode(d, below(OPCODES));
+    if (percent(30))
+        draft_guard(d);
+    bool setp = strcmp(d->name[0], "setp") == 0;
+    if (percent(setp ? 50 : 20)) {              /* numbers and equal pairs that have no say */
+        unsigned p = below(16);
+        if (setp && percent(60))
+            snprintf(d->operand[0], TEXT_MOST, "%%p%u|%%p%u", p, p);
+        else
+            put_over(d->operand[below(d->operands)], 80);
+        if (percent(30))
+            put_over(d->guard, 100);
+    }
+    if (kind < 14) {
+        d->operands = 1 + below(d->operands - 1);
+    } else if (kind < 26) {
+        for (unsigned n = 1 + below(2); n > 0 && d->operands < OPERANDS_MOST; n--)
+            operand_of_kind(d->operand[d->operands++], percent(50) ? 2 : below(6));
+    } else if (kind < 86) {
+        wrong_operand(d);
+        if (percent(10))                        /* another behind it, or in front */
+            wrong_operand(d);
+    } else if (kind < 94) {
+        wrong_guard(d, percent(80) ? 32 : 100);
+        if (percent(20))
+            wrong_operand(d);
+    } else {                                    /* a selector on d, or none */
+        char *dot = strchr(d->operand[0], '.');
+        if (dot != NULL)
+            *dot = '\0';
+        else
+            put_selector(d->operand[0], PICK(parts));
+    }
+}
+
+static void miss_numbers(Draft *d)
+{
+    draft_opcode(d, below(OPCODES));
+    if (percent(50))
+        draft_guard(d);
+    unsigned at = below(d->operands + (d->guard[0] != '\0')), chance = percent(45) ? 0 : 75;
+    put_over(at == d->operands ? d->guard : d->operand[at], 100);
+    for (unsigned i = at + 1; i < d->operands; i++)
+        put_over(d->operand[i], chance);
+    if (at == d->operands)
+        for (unsigned i = 0; i < d->operands; i++)
+            put_over(d->operand[i], chance);
+    char *bar = strchr(d->operand[0], '|');
+    if (bar != NULL && at == 0 && percent(40)) {        /* the second place alone */
+        unsigned p = below(16);
+        char second[TEXT_MOST];
+        snprintf(second, sizeof second, "%s", bar + 1);
+        snprintf(d->operand[0], TEXT_MOST, "%%p%u|%.20s", p, second[0] == '_' ? "%p16" : second);
+    }
+}
+
+static void miss_pair(Draft *d)
+{
+    unsigned p = below(16);
+    memset(d, 0, sizeof *d);
+    draft_set(d, true);
+    if (percent(50))
+        draft_guard(d);
+    snprintf(d->operand[0], TEXT_MOST, "%%p%u|%%p%u", p, p);
+}
+
+/* These lines have a stream of chance of their own, and nearly all are refused, so the other lines stay as they were. */
+static uint64_t place_state;
+
+static void emit_place_line(void)
+{
+    Draft draft;
+    Line line;
+    uint64_t kept_state = state;
+    unsigned kept_source = last_source, kept_double = last_double;
+    state = place_state;
+    unsigned kind = below(100);
+    if (kind < 30) {
+        broken_shape(&line);
+    } else {
+        if (kind < 61)      miss_modifiers(&draft);
+        else if (kind < 89) miss_operands(&draft);
+        else if (kind < 97) miss_numbers(&draft);
+        else                miss_pair(&draft);
+        if (draft.guard[0] == '\0' && percent(20))
+            draft_guard(&draft);
+        if (percent(5))
+            render_long(&draft, &line);
+        else
+            render_some_way(&draft, &line);
+    }
+    place_state = state;
+    state = kept_state;
+    last_source = kept_source;
+    last_double = kept_double;
+    emit(line.bytes, line.length);
+}
+
+static bool is_place_line(void)
+{
+    uint64_t kept_state = state;
+    state = place_state;
+    bool yes = percent(24);
+    place_state = state;
+    state = kept_state;
+    return yes;
+}
+
 /* ---- the whole ---- */
 
 static void emit_line(void)
@@ -1043,7 +1536,8 @@ static void emit_line(void)
         render_some_way(&draft, &line);
     } else if (kind < 934) {
         render_some_way(&draft, &line);
-        insert_byte(&line, below((unsigned)line.length + 1), percent(60) ? ' ' : '\t');
+        size_t at = below((unsigned)line.length + 1);
+        insert_byte(&line, at, percent(60) ? ' ' : '\t');
     } else if (kind < 962) {
         render_some_way(&draft, &line);
         insert_hostile(&line);
@@ -1096,6 +1590,7 @@ int main(int argc, char **argv)
         return 2;
     }
     state = strtoull(argv[1], NULL, 0) * UINT64_C(0xD1342543DE82EF95) + 1;
+    place_state = ~state;
     unsigned long long bytes = strtoull(argv[2], NULL, 0);
     limit = bytes < LISTING_MOST ? (size_t)bytes : LISTING_MOST;
     if (limit == 0)
@@ -1113,6 +1608,8 @@ int main(int argc, char **argv)
             emit_kit();
         else if (below(40) == 0)
             emit_predicates();
+        if (limit >= 4000 && limit - used >= CHOICES && is_place_line())
+            emit_place_line();
         if (limit >= 4000 && limit - used < CHOICES)
             emit_choice();
         else

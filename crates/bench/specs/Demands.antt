@@ -1,5 +1,5 @@
--- The user's three demands, in their words and order, as laws of the whole bench: document 01 with the requests that have landed (T-01, T-02, T-04). The laws of T-14, which
--- changed no answer, stand beside this file, in TakenApart.antt.
+-- The user's three demands, in their words and order, as laws of the whole bench: document 01 with the requests that have landed (T-01, T-02, T-04, T-05). The laws of T-14, which
+-- changed no answer, stand beside this file, in TakenApart.antt; what stands at each place of T-05, in WhereWrong.antt.
 -- `read`, `write` and `execute` of src/lib.rt promise `Answers`, `writing` and `run` for every input; these laws say what that means, and
 -- proofs/Contracts.antt says the records at the end of this file of the functions' own contracts, and that these ask nothing. What a definition says, its own file says
 -- after the documents (docs/RULES.md leads the way). Assumes nothing.
@@ -27,7 +27,7 @@ use Rattle.record.specs.declared.Instruction.the-variants.{VsetLanes, Arithmeti
 use Rattle.record.specs.declared.Record.{Record}
 use Rattle.rules.specs.Grammar.{LineTree, Shaped}
 use Rattle.rules.specs.StandardLine.{standard}
-use Rattle.rules.specs.Reading.{Relates, lineLimit, Applies, readingOrder, FirstOf, Answer, read, refused, Answers}
+use Rattle.rules.specs.Reading.{Relates, lineLimit, Applies, readingOrder, FirstOf, Placed, placeless, Answer, read, refused, refused-at, Answers}
 use Rattle.signs.specs.Lists.{Listed}
 use Rattle.rules.specs.Writing as paper
 use Rattle.rules.specs.Writing.{written, writing}
@@ -44,6 +44,7 @@ use Rattle.read.specs.Mirror.{readOf}
 use Rattle.read.specs.Laws as reader
 use Rattle.read.specs.Answering as answering
 use Rattle.read.specs.Promises as promises
+use Rattle.read.specs.Promises.{Refusal}
 
 -- ==== 1. Every line, every decoded record and every set of register files gets an answer.
 
@@ -78,6 +79,10 @@ execute-11 x f e s b = outcomes.execute-11 x f e s b
 -- (a line is lent to be read only: by its type it stays as it is)
 pub read-refused : (l : List ℕ) (n : ℕ) → Answers l (refused n) → Listed n readingOrder
 read-refused l n a = promises.refused-listed l n a
+
+-- T-05: refusals 2 to 7 carry a byte place, which is one of the line or its length
+pub read-refused-at : (l : List ℕ) (n q : ℕ) → Answers l (refused-at n q) → Listed n readingOrder × (q ≤ length l)
+read-refused-at l n q a = (promises.refused-at-listed l n q a, promises.refused-at-within l n q a .0)
 
 pub write-refused : (x : Record) (b : List ℕ) (n : ℕ) → writing x b .answer ≡ paper.refused n → Listed n (8 ∷ 9 ∷ []) × (writing x b .buffer ≡ b)
 write-refused x b n e = outcomes.write-refused x b n e
@@ -216,12 +221,28 @@ equal-records x y e = ap standard e
 
 -- A line that is not accepted gets the first refusal, in document 01's order, that applies to it.
 
--- n applies, and none before it in the order does
-pub refused-first : (l : List ℕ) (n : ℕ) → Answers l (refused n) → FirstOf l n readingOrder
+-- n applies, and none before it in the order does. T-05: demand 3 covers the place too
+pub refused-first : (l : List ℕ) (n : ℕ) → Answers l (refused n) → FirstOf l n readingOrder × Listed n placeless
 refused-first l n a = promises.refused-first l n a
 
-pub first-refused : (l : List ℕ) (n : ℕ) → FirstOf l n readingOrder → Answers l (refused n)
-first-refused l n f = promises.first-refused l n f
+pub refused-at-first : (l : List ℕ) (n q : ℕ) → Answers l (refused-at n q) → FirstOf l n readingOrder × Placed l n q
+refused-at-first l n q a = promises.refused-at-first l n q a
+
+pub first-refused : (l : List ℕ) (n : ℕ) → FirstOf l n readingOrder → Listed n placeless → Answers l (refused n)
+first-refused l n f i = promises.first-refused l n f i
+
+pub first-refused-at : (l : List ℕ) (n q : ℕ) → FirstOf l n readingOrder → Placed l n q → Answers l (refused-at n q)
+first-refused-at l n q f i = promises.first-refused-at l n q f i
+
+-- each refusal but 1 has a place, and one; 1 has none
+pub some-place : (l : List ℕ) (n : ℕ) → FirstOf l n readingOrder → (Listed n placeless → ⊥) → (q : ℕ) × Placed l n q
+some-place l n f k = answering.placed-some l n f k
+
+pub one-place : (l : List ℕ) → length l ≤ lineLimit → (n q k : ℕ) → Placed l n q → Placed l n k → q ≡ k
+one-place l h n q k x y = answering.placed-one l h n q k x y
+
+pub no-place : (l : List ℕ) (n q : ℕ) → Listed n placeless → Placed l n q → ⊥
+no-place l n q i x = answering.placeless-unplaced l n q i x
 
 -- an accepted line has no refusal that applies, and a line with none that applies is accepted
 pub accepted-none-applies : (l : List ℕ) (x : Record) → Answers l (read x) → (n : ℕ) → Applies l n → ⊥
@@ -230,11 +251,11 @@ accepted-none-applies l x a n e = promises.accepted-none-applies l x a n e
 pub none-applies-accepted : (l : List ℕ) → ((n : ℕ) → Applies l n → ⊥) → (x : Record) × Answers l (read x)
 none-applies-accepted l h = answering.none-accepted l h
 
-pub not-accepted-refused : (l : List ℕ) → ((x : Record) → Relates l x → Legal x → ⊥) → (n : ℕ) × Answers l (refused n)
+pub not-accepted-refused : (l : List ℕ) → ((x : Record) → Relates l x → Legal x → ⊥) → (a : Answer) × Answers l a × (n : ℕ) × Refusal a n
 not-accepted-refused l h = promises.unrelated-refused l h
 
-pub refused-not-accepted : (l : List ℕ) (n : ℕ) (x : Record) → Answers l (refused n) → Relates l x → Legal x → ⊥
-refused-not-accepted l n x a q h = promises.refused-unrelated l n x a q h
+pub refused-not-accepted : (l : List ℕ) (a : Answer) (n : ℕ) (x : Record) → Answers l a → Refusal a n → Relates l x → Legal x → ⊥
+refused-not-accepted l a n x h i q k = promises.refused-unrelated l a n x h i q k
 
 -- ==== the demands of one call: what is asked for, the answer a, and what the lent memory holds at exit
 
@@ -242,8 +263,10 @@ refused-not-accepted l n x a q h = promises.refused-unrelated l n x a q h
 pub record ReadAsDemanded (l : List ℕ) (a : Answer) : Type 0 where
   pub accepted : (x : Record) → a ≡ read x → Relates l x × Legal x
   pub related : (x : Record) → Relates l x → Legal x → a ≡ read x
-  pub refused-first : (n : ℕ) → a ≡ refused n → FirstOf l n readingOrder
-  pub first-refused : (n : ℕ) → FirstOf l n readingOrder → a ≡ refused n
+  pub refused-first : (n : ℕ) → a ≡ refused n → FirstOf l n readingOrder × Listed n placeless
+  pub first-refused : (n : ℕ) → FirstOf l n readingOrder → Listed n placeless → a ≡ refused n
+  pub refused-at-first : (n q : ℕ) → a ≡ refused-at n q → FirstOf l n readingOrder × Placed l n q
+  pub first-refused-at : (n q : ℕ) → FirstOf l n readingOrder → Placed l n q → a ≡ refused-at n q
 
 -- a record is written into a buffer b, which holds c at exit
 pub record WrittenAsDemanded (x : Record) (b : List ℕ) (a : paper.Answer) (c : List ℕ) : Type 0 where
@@ -271,7 +294,9 @@ read-as-demanded l a h =
       accepted = λ x e. promises.accepted-related l x (rw (← e) h);
       related = λ x r e. answering.answers-unique l a (read x) h (promises.related-accepted l x r e);
       refused-first = λ n e. promises.refused-first l n (rw (← e) h);
-      first-refused = λ n f. answering.answers-unique l a (refused n) h (promises.first-refused l n f);
+      first-refused = λ n f i. answering.answers-unique l a (refused n) h (promises.first-refused l n f i);
+      refused-at-first = λ n q e. promises.refused-at-first l n q (rw (← e) h);
+      first-refused-at = λ n q f i. answering.answers-unique l a (refused-at n q) h (promises.first-refused-at l n q f i);
     }
 
 pub written-as-demanded : (x : Record) (b : List ℕ) (a : paper.Answer) (c : List ℕ) → paper.outcome a c ≡ writing x b → WrittenAsDemanded x b a c

@@ -1,2 +1,3 @@
 pub mod Demands
 pub mod TakenApart
+pub mod WhereWrong

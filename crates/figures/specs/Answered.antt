@@ -1,11 +1,12 @@
--- Lines and the answers that document 01 gives them: lines that are read, each refusal 1 to 7, and lines to which more than one applies. One list with one claim.
+-- Lines and the answers that document 01 and T-05 give them: lines that are read, each refusal 1 to 7 with its place, and lines to which more than one
+-- applies. One list with one claim.
 use Prim.Native.Nat.{ℕ}
 use mathlib.Core.Path.{_≡_, refl, subst}
 use mathlib.Core.List.{List, [], _∷_, _++_, map}
 use lib.ListN.{replicate}
 use Rattle.signs.specs.Text.{bytes}
 use Rattle.base.specs.Pack.{codeOf}
-use Rattle.rules.specs.Reading.{Answer, read, refused, Answers}
+use Rattle.rules.specs.Reading.{Answer, read, refused, refused-at, Answers}
 use Rattle.scan.specs.Runs.{cappedSum}
 use Rattle.scan.specs.Numbers.{numberFound, numberBy}
 use Rattle.scan.specs.Registers.{registerOf, registerBy, prefixBy, registerFrom}
@@ -16,10 +17,21 @@ use Rattle.shape.specs.Operand.{operandScanned, firstOf, afterBy, partOf, secon
 use Rattle.shape.specs.Operands.{operandsScanned, operandTurn, operandBy, dividedBy, dividerOf, dividerBy, pushedTree}
 use Rattle.shape.specs.Line.{shapeOf, guardedBy, fromHead, fromGap, fromOperands, fromEnd, stoppedAt}
 use Rattle.names.specs.Back.{opcodeOf, videoOf, typeOf, sixOf, cmpOf, boolOpOf, op2Of}
-use Rattle.heads.specs.Rows.{rowOf, rowBy, foundOf, readOf as readHead, nameAt, wholeOf, sidesAt, sidesBy, headCompared, comparedBy, typedOf, typedBy, endingAt, endingBy, arithmeticRow, arithmeticTyped, arithmeticBy, vsetLanesRow, vsetLanesBy, testedOf, testedBy, testAt, setpRow, setpTested, setpAt, setpBy, selpRow, selpBy}
+use Rattle.heads.specs.Rows.{rowOf, rowBy, foundOf, readOf as readHead, nameAt, wholeOf, sidesAt, sidesBy, headCompared, comparedBy, typedOf, typedBy, endingAt, endingBy, arithmeticRow, arithmeticTyped, arithmeticBy, vsetLanesRow, vsetLanesBy, testedOf, testedBy, testAt, setRow, setTested, setAt, setBy, setpRow, setpTested, setpAt, setpBy, selpRow, selpBy, slctRow, slctAt, slctBy}
+use Rattle.heads.specs.Tables.{slctTypeOf}
 use Rattle.masks.specs.Masks.{maskOf, falling, digitsNamed, digitsIn}
 use Rattle.fills.specs.Fills.{filledOf, treeAt, scalarFrom, lanesFrom, comparisonFrom, choiceFrom}
-use Rattle.read.specs.Mirror.{candidateOf, readOf}
+use Rattle.begins.specs.Machines.{wrongFrom}
+use Rattle.begins.specs.Searches.{turnsAt, searched}
+use Rattle.viable.specs.States.{named, ends, follow, digits, register, step, shapePlaceOf}
+use Rattle.starts.specs.Starts.{guardEnd, headAt, nameFrom, operandsAt, nextBy, nextOf, nextAt, operandFrom, barAt}
+use Rattle.starts.specs.Over.{overAt}
+use Rattle.rowplace.specs.Tries as row
+use Rattle.rowplace.specs.Tries.{isRow, beginsRow, rowPlaceOf}
+use Rattle.fillplace.specs.Tries as fill
+use Rattle.fillplace.specs.Tries.{isFilled, beginsFilled, operandPlaceOf}
+use Rattle.places.specs.Mirror.{modifierPlaceOf, operandIndexOf, legalPlaceOf, guardPlaceOf, partsPlaceOf, placeOf}
+use Rattle.read.specs.Mirror.{candidateOf, verdictOf, refusedBy, readOf}
 use Rattle.read.specs.Answering.{answers}
 use Rattle.figures.specs.Lines.{exampleVset4, exampleSetp, exampleSelp, highestWord}
 
@@ -38,34 +50,58 @@ unfoldable pub answered : List Answered
 answered =
     -- document 01's example: Lines.antt has the standard line of each record
     gets (bytes "vset4.u32.u32.lt %r10, %r1, %r2, %r0;") (read exampleVset4)
-    ∷ gets (bytes "vset4.u32.u32.ne.max %r1, %r2, %r3, %r0;") (refused 4)
+    ∷ gets (bytes "vset4.u32.u32.ne.max %r1, %r2, %r3, %r0;") (refused-at 4 17)
     ∷ gets (bytes "setp.lt.u32 %p1|_, %r1, %r2;") (read exampleSetp)
     ∷ gets (bytes "@!%p1  selp.u32 %r11, %r1,%r2, %p1;") (read exampleSelp)
     -- a bare operand and its written default are one record
     ∷ gets (bytes "vset4.u32.u32.lt %r10.b3210, %r1.b3210, %r2.b7654, %r0;") (read exampleVset4)
     -- `%r63` is read, `%r64` gives 6, `%r063` gives 2
     ∷ gets (bytes "vadd.u32.u32.u32 %r63, %r1, %r2;") (read highestWord)
-    ∷ gets (bytes "vadd.u32.u32.u32 %r64, %r1, %r2;") (refused 6)
-    ∷ gets (bytes "vadd.u32.u32.u32 %r063, %r1, %r2;") (refused 2)
+    ∷ gets (bytes "vadd.u32.u32.u32 %r64, %r1, %r2;") (refused-at 6 17)
+    ∷ gets (bytes "vadd.u32.u32.u32 %r063, %r1, %r2;") (refused-at 2 20)
     -- 160 bytes are read, 161 give 1. The empty line gives 2
     ∷ gets (padded 123) (read exampleVset4)
     ∷ gets (padded 124) (refused 1)
-    ∷ gets [] (refused 2)
+    ∷ gets [] (refused-at 2 0)
     -- no opcode here. `_|_` gives 5. Both places of a pair are the same predicate
-    ∷ gets (bytes "vmad.u32.u32.u32 %r1, %r2, %r3, %r4;") (refused 3)
-    ∷ gets (bytes "setp.lt.u32 _|_, %r1, %r2;") (refused 5)
-    ∷ gets (bytes "setp.lt.u32 %p1|%p1, %r1, %r2;") (refused 7)
+    ∷ gets (bytes "vmad.u32.u32.u32 %r1, %r2, %r3, %r4;") (refused-at 3 0)
+    ∷ gets (bytes "setp.lt.u32 _|_, %r1, %r2;") (refused-at 5 12)
+    ∷ gets (bytes "setp.lt.u32 %p1|%p1, %r1, %r2;") (refused-at 7 16)
     -- each looked at only when the earlier ones don't apply: 1 and 2; 3, 4 and 6; 4 alone, though an operand is missing; 5 and 6; 6 and 7
     ∷ gets (replicate 161 32) (refused 1)
-    ∷ gets (bytes "vmad.u32.u32.u32 %r64, %r2, %r3, %r4;") (refused 3)
-    ∷ gets (bytes "vset4.u32.u32.ne.max %r1, %r2, %r3;") (refused 4)
-    ∷ gets (bytes "setp.lt.u32 _|_, %r64, %r2;") (refused 5)
-    ∷ gets (bytes "setp.lt.u32 %p16|%p16, %r1, %r2;") (refused 6)
+    ∷ gets (bytes "vmad.u32.u32.u32 %r64, %r2, %r3, %r4;") (refused-at 3 0)
+    ∷ gets (bytes "vset4.u32.u32.ne.max %r1, %r2, %r3;") (refused-at 4 17)
+    ∷ gets (bytes "setp.lt.u32 _|_, %r64, %r2;") (refused-at 5 12)
+    ∷ gets (bytes "setp.lt.u32 %p16|%p16, %r1, %r2;") (refused-at 6 12)
+    -- T-05, worked by hand. For 2: the fourth digit; the comma behind a lone `_`; the number, which no operand begins with; only unfinished
+    ∷ gets (bytes "selp.u32 %r1000, %r1, %r2, %p1;") (refused-at 2 14)
+    ∷ gets (bytes "setp.lt.u32 _, %r1, %r2;") (refused-at 2 13)
+    ∷ gets (bytes "selp.u32 %r1, 7, %r2, %p1;") (refused-at 2 14)
+    ∷ gets (bytes "   ") (refused-at 2 3)
+    ∷ gets (bytes "selp.u32 %r40, %r1, %r2, %p1") (refused-at 2 28)
+    -- for 3 the opcode, behind blanks and a guard
+    ∷ gets (bytes " @!%p1 mov.u32 %r1, %r2;") (refused-at 3 7)
+    -- for 4 the first modifier that no legal list has after the ones before it, or the end of the list if it is only too short
+    ∷ gets (bytes "setp.lo.ftz.u32 %p1, %r1, %r2;") (refused-at 4 8)
+    ∷ gets (bytes "set.num.u32.u32 %r1, %r2, %r3;") (refused-at 4 12)
+    ∷ gets (bytes "setp.lt.b32 %p1, %r1, %r2;") (refused-at 4 8)
+    ∷ gets (bytes "vadd.u32.u32 %r1, %r2, %r3;") (refused-at 4 12)
+    ∷ gets (bytes "slct.b32.ftz.f32 %r1, %r2, %r3, %r4;") (refused-at 4 9)
+    -- for 5 the guard; the first operand that no legal list has after the ones before it; the end of the list
+    ∷ gets (bytes "@%r1 selp.u32 %r1, %r2, %r3, %p1;") (refused-at 5 0)
+    ∷ gets (bytes "vadd.u32.u32.u32 %r1, %r2, %r3, %r4;") (refused-at 5 32)
+    ∷ gets (bytes "vadd.u32.u32.u32.add %r1.b0, %r2, %r3, %r4;") (refused-at 5 21)
+    ∷ gets (bytes "setp.lt.and.u32 %p1, %r1, %r64, !%r1;") (refused-at 5 32)
+    ∷ gets (bytes "vadd.u32.u32.u32 %r1.b0, %r2, %r3 ;") (refused-at 5 33)
+    -- for 6 the first such register, guard first, for 7 the second place
+    ∷ gets (bytes "@%p16 selp.u32 %r64, %r2, %r3, %p1;") (refused-at 6 1)
+    ∷ gets (bytes "selp.u32 %r1, %r2, %r3, %p16;") (refused-at 6 24)
+    ∷ gets (bytes "@%p1 setp.lt.u32 %p1|%p1, %r1, %r2;") (refused-at 7 21)
     ∷ []
 
 -- the reader's stages give each line its answer
 answered-computed : map (λ (x : Answered). readOf (x .line)) answered ≡ map (λ (x : Answered). x .answer) answered
-unfolding answered readOf candidateOf shapeOf guardedBy guardOf guardBy fromHead headOf turns nameTurn nameBy pushedName fromGap fromOperands operandsScanned operandTurn operandBy operandScanned firstOf afterBy partOf secondOf secondBy dividedBy dividerOf dividerBy pushedTree fromEnd stoppedAt registerOf registerBy prefixBy registerFrom numberFound numberBy cappedSum codeOf rowOf rowBy foundOf readHead nameAt wholeOf sidesAt sidesBy headCompared comparedBy typedOf typedBy endingAt endingBy arithmeticRow arithmeticTyped arithmeticBy vsetLanesRow vsetLanesBy testedOf testedBy testAt setpRow setpTested setpAt setpBy selpRow selpBy opcodeOf videoOf typeOf sixOf cmpOf boolOpOf op2Of maskOf falling digitsNamed digitsIn filledOf treeAt scalarFrom lanesFrom comparisonFrom choiceFrom
+unfolding answered readOf refusedBy verdictOf placeOf partsPlaceOf modifierPlaceOf guardPlaceOf legalPlaceOf operandIndexOf rowPlaceOf row.guessOf beginsRow row.tried row.completed row.entry isRow operandPlaceOf fill.guessOf beginsFilled fill.tried fill.completed fill.entry isFilled turnsAt searched shapePlaceOf wrongFrom step register digits follow ends named headAt guardEnd nameFrom operandsAt operandFrom nextAt nextOf nextBy barAt overAt candidateOf shapeOf guardedBy guardOf guardBy fromHead headOf turns nameTurn nameBy pushedName fromGap fromOperands operandsScanned operandTurn operandBy operandScanned firstOf afterBy partOf secondOf secondBy dividedBy dividerOf dividerBy pushedTree fromEnd stoppedAt registerOf registerBy prefixBy registerFrom numberFound numberBy cappedSum codeOf rowOf rowBy foundOf readHead nameAt wholeOf sidesAt sidesBy headCompared comparedBy typedOf typedBy endingAt endingBy arithmeticRow arithmeticTyped arithmeticBy vsetLanesRow vsetLanesBy testedOf testedBy testAt setRow setTested setAt setBy setpRow setpTested setpAt setpBy selpRow selpBy slctRow slctAt slctBy slctTypeOf opcodeOf videoOf typeOf sixOf cmpOf boolOpOf op2Of maskOf falling digitsNamed digitsIn filledOf treeAt scalarFrom lanesFrom comparisonFrom choiceFrom
 answered-computed = refl
 
 -- the grammar gives each line of a list the answer beside it

@@ -50,7 +50,7 @@ const KEPT: usize = 5;
 // ---- an operand by its place
 
 // Past the fifth stands `_|_`, which no opcode takes.
-fn tree_at(o: Operands, k: usize) -> Tree
+pub fn tree_at(o: Operands, k: usize) -> Tree
     ensures { λ r. ⌜ r ≡ treeAt o k ⌝ }
 {
     let at = o.at;

@@ -201,3 +201,24 @@ fit-blank (Set d w s) = refl
 fit-blank (Setp d s) = refl
 fit-blank (Selp s c) = refl
 fit-blank (Slct t s c) = refl
+
+-- the operands of a head that was left blank do not count
+form-op2 : (f : Form) → formOp2 (blankForm f) ≡ formOp2 f
+form-op2 (Plain d) = refl
+form-op2 (Merge d sel c) = refl
+form-op2 (Combine op d c) = refl
+
+combination-names : (c : Combination) → combinationNames (blankCombination c) ≡ combinationNames c
+combination-names Alone = refl
+combination-names (With op c) = refl
+
+pub blank-names : (i : Instruction) → headNames (blank i) ≡ headNames i
+blank-names (Arithmetic op dtype sat s) = rw (form-op2 (s .form))
+blank-names (Vset cmp s) = rw (form-op2 (s .form))
+blank-names (VsetLanes cmp l) = refl
+blank-names (ArithmeticLanes op dtype sat l) = refl
+blank-names (Set dtype d s) = rw (combination-names (s .combination))
+blank-names (Setp d s) = rw (combination-names (s .combination))
+blank-names (Selp s c) = refl
+blank-names (Slct SlctType.S32 s c) = refl
+blank-names (Slct (SlctType.F32 ftz) s c) = refl

@@ -82,7 +82,7 @@ zeros-at (suc k) zero i = refl
 zeros-at (suc k) (suc m) zero = refl
 zeros-at (suc k) (suc m) (suc i) = zeros-at k m i
 
-kept-at : (k m i : ℕ) (l : List ℕ) → i < k → getD (take k (l ++ replicate m 0)) i 0 ≡ getD l i 0
+pub kept-at : (k m i : ℕ) (l : List ℕ) → i < k → getD (take k (l ++ replicate m 0)) i 0 ≡ getD l i 0
 kept-at zero m i l h = absurd (omega arith)
 kept-at (suc k) m i [] h = zeros-at (suc k) m i
 kept-at (suc k) m zero (x ∷ l) h = refl

@@ -4,8 +4,11 @@ use Prim.Native.Nat.{ℕ, _≤_}
 use native.Mathlib.Omega.{arith}
 use mathlib.Core.Path.{_≡_, refl, sym, ap, subst, _∙_}
 use mathlib.Core.Bool.{Bool, true, false, not, _&&_, cond, and-eq-true-iff}
-use mathlib.Core.List.{List, [], _∷_, _++_}
+use mathlib.Core.List.{List, [], _∷_, _++_, map, append-nil}
 use lib.Dec.{ltb, eqb}
+use lib.ListN.{length}
+use borrow.Table.Elements.{map-app}
+use Rattle.signs.specs.Text.{bytes}
 use borrow.Author.Tests.{ltb-true, ltb-false, eqb-true, eq-eqb, not-false}
 use Rattle.base.specs.Values.{every, every-append}
 use Rattle.record.specs.Registers.{Place, word, double, pred, r, p, operandPlace, Inside, numberOf, fileSize}
@@ -30,58 +33,125 @@ use Rattle.record.specs.declared.Destination.the-variants.{One, Pair, First, Se
 use Rattle.record.specs.declared.Instruction.{Instruction}
 use Rattle.record.specs.declared.Instruction.the-variants.{Arithmetic, Vset, VsetLanes, ArithmeticLanes, Set, Setp, Selp, Slct}
 use Rattle.record.specs.declared.Record.{Record}
-use Rattle.rules.specs.Shape.{Name, at, nothing, OperandTree, inverted, pair, bare, part}
+use Rattle.rules.specs.Shape.{Name, Spot, at, nothing, spotText, OperandTree, inverted, pair, bare, part}
 use Rattle.rules.specs.Names.{maskName, digitsName}
 use Rattle.rules.specs.Spelling.{sameMask, sameDigits, selectedTree, formTree, formLast, combinationLast, destinationTree, scalarTrees, lanesTrees, operandTrees, writtenLanes, writtenTrees}
-use Rattle.rules.specs.Grammar.{LineTree, GuardTree, unguarded, guarded, operandsOf}
-use Rattle.rules.specs.Reading.{GuardSpells, OneOf, as-standard, as-written, Spelled, Spells, guardRegisters, operandRegisters, operandsRegisters, registersOf}
+use Rattle.rules.specs.Grammar.{LineTree, GuardTree, unguarded, guarded, Divided, operandsOf}
+use Rattle.rules.specs.Reading.{GuardSpells, OneOf, as-standard, as-written, Spelled, Spells}
+use Rattle.rules.specs.BytePlaces.{Register, after, spotRegisters, operandRegisters, operandLength, operandsRegisters, guardStart, operandsStart, guardRegisters, registersOf, FirstOutside, here as outside-here, later as outside-later}
 use Rattle.signs.specs.Lists.{Listed}
 use Rattle.signs.specs.Lists.Listed.{here, later}
 use Rattle.rules.specs.Reading.Spelled.{none, more}
 use Rattle.rules.specs.Executing.{selectedWord, formD, formSources, combinationSources, comparisonSources, destinationPlaces, destinations, sources, guardSources, named}
 
+-- a truth that is false
+pub off : {A : Type 0} → true ≡ false → A
+off e = let z : _≡_ {A = ℕ} 0 1 = cc in absurd (omega arith)
+
+-- ==== the registers of a line without their bytes
+
+abbrev spotPlaces : Spot → List Place
+spotPlaces (at q) = q ∷ []
+spotPlaces nothing = []
+
+abbrev operandPlaces : OperandTree → List Place
+operandPlaces (inverted q) = q ∷ []
+operandPlaces (pair u v) = spotPlaces u ++ spotPlaces v
+operandPlaces (bare q) = q ∷ []
+operandPlaces (part q n) = q ∷ []
+
+abbrev pub operandsPlaces : List OperandTree → List Place
+operandsPlaces [] = []
+operandsPlaces (o ∷ os) = operandPlaces o ++ operandsPlaces os
+
+abbrev guardPlaces : GuardTree → List Place
+guardPlaces unguarded = []
+guardPlaces (guarded negated q blanks) = q ∷ []
+
+abbrev pub placesOf : LineTree → List Place
+placesOf t = guardPlaces (t .guard) ++ operandsPlaces (operandsOf t)
+
+abbrev place : Register → Place
+place x = x .1
+
+after-places : (n : ℕ) (rs : List Register) → map place (after n rs) ≡ map place rs
+after-places n [] = refl
+after-places n (x ∷ rs) = ap (λ (l : List Place). x .1 ∷ l) (after-places n rs)
+
+spot-places : (u : Spot) → map place (spotRegisters u) ≡ spotPlaces u
+spot-places (at q) = refl
+spot-places nothing = refl
+
+operand-places : (o : OperandTree) → map place (operandRegisters o) ≡ operandPlaces o
+operand-places (inverted q) = refl
+operand-places (pair u v) =
+    let n : ℕ = length (spotText u ++ bytes "|") in
+    map-app place (spotRegisters u) (after n (spotRegisters v)) ∙ rw (after-places n (spotRegisters v), spot-places u, spot-places v)
+operand-places (bare q) = refl
+operand-places (part q n) = refl
+
+operands-places : (o : OperandTree) (ds : List Divided) → map place (operandsRegisters o ds) ≡ operandsPlaces (o ∷ map (λ (d : Divided). d .operand) ds)
+operands-places o [] = operand-places o ∙ sym (append-nil (operandPlaces o))
+operands-places o (d ∷ ds) =
+    map-app place (operandRegisters o) (after (operandLength o d) (operandsRegisters (d .operand) ds))
+    ∙ rw (after-places (operandLength o d) (operandsRegisters (d .operand) ds), operand-places o, operands-places (d .operand) ds)
+
+guard-places : (g : GuardTree) → map place (guardRegisters g) ≡ guardPlaces g
+guard-places unguarded = refl
+guard-places (guarded true q b) = refl
+guard-places (guarded false q b) = refl
+
+registers-places : (t : LineTree) → map place (registersOf t) ≡ placesOf t
+registers-places t =
+    map-app place (after (guardStart t) (guardRegisters (t .guard))) (after (operandsStart t) (operandsRegisters (t .first) (t .others)))
+    ∙ rw (after-places (guardStart t) (guardRegisters (t .guard)), after-places (operandsStart t) (operandsRegisters (t .first) (t .others)), guard-places (t .guard), operands-places (t .first) (t .others))
+
+place-listed : (rs : List Register) (n : ℕ) (q : Place) → Listed (n, q) rs → Listed q (map place rs)
+place-listed (x ∷ rs) n q (here e) = here (ap place e)
+place-listed (x ∷ rs) n q (later h) = later (place-listed rs n q h)
+
 -- ==== the operands of the standard line show the destinations, then the sources
 
-selected-registers : (s : Selected) → operandRegisters (selectedTree s) ≡ r (selectedWord s) ∷ []
+selected-registers : (s : Selected) → operandPlaces (selectedTree s) ≡ r (selectedWord s) ∷ []
 selected-registers (Whole w) = refl
 selected-registers (Part w sel) = refl
 
-form-registers : (f : Form) → operandRegisters (formTree f) ≡ r (formD f) ∷ []
+form-registers : (f : Form) → operandPlaces (formTree f) ≡ r (formD f) ∷ []
 form-registers (Plain d) = refl
 form-registers (Merge d sel c) = refl
 form-registers (Combine op d c) = refl
 
-form-last : (f : Form) → operandsRegisters (formLast f) ≡ formSources f
+form-last : (f : Form) → operandsPlaces (formLast f) ≡ formSources f
 form-last (Plain d) = refl
 form-last (Merge d sel c) = refl
 form-last (Combine op d c) = refl
 
 -- bare or with a name, one register
-one-register : (t : Bool) (q : Place) (n : Name) → operandRegisters (cond t (bare q) (part q n)) ≡ q ∷ []
+one-register : (t : Bool) (q : Place) (n : Name) → operandPlaces (cond t (bare q) (part q n)) ≡ q ∷ []
 one-register true q n = refl
 one-register false q n = refl
 
-condition-register : (t : Bool) (q : Place) → operandRegisters (cond t (inverted q) (bare q)) ≡ q ∷ []
+condition-register : (t : Bool) (q : Place) → operandPlaces (cond t (inverted q) (bare q)) ≡ q ∷ []
 condition-register true q = refl
 condition-register false q = refl
 
-combination-registers : (c : Combination) → operandsRegisters (combinationLast c) ≡ combinationSources c
+combination-registers : (c : Combination) → operandsPlaces (combinationLast c) ≡ combinationSources c
 combination-registers Alone = refl
 combination-registers (With op c) = rw (condition-register (c .inverted) (p (c .pred)))
 
-destination-registers : (d : Destination) → operandRegisters (destinationTree d) ≡ destinationPlaces d
+destination-registers : (d : Destination) → operandPlaces (destinationTree d) ≡ destinationPlaces d
 destination-registers (One a) = refl
 destination-registers (Pair a b) = refl
 destination-registers (First a) = refl
 destination-registers (Second b) = refl
 
-scalar-registers : (s : Scalar) → operandsRegisters (scalarTrees s) ≡ r (formD (s .form)) ∷ r (selectedWord (s .a)) ∷ r (selectedWord (s .b)) ∷ formSources (s .form)
+scalar-registers : (s : Scalar) → operandsPlaces (scalarTrees s) ≡ r (formD (s .form)) ∷ r (selectedWord (s .a)) ∷ r (selectedWord (s .b)) ∷ formSources (s .form)
 scalar-registers s = rw (form-registers (s .form), selected-registers (s .a), selected-registers (s .b), form-last (s .form))
 
-lanes-registers : (l : Lanes) → operandsRegisters (lanesTrees l) ≡ r (l .d) ∷ r (l .a) ∷ r (l .b) ∷ r (l .c) ∷ []
+lanes-registers : (l : Lanes) → operandsPlaces (lanesTrees l) ≡ r (l .d) ∷ r (l .a) ∷ r (l .b) ∷ r (l .c) ∷ []
 lanes-registers l = simp one-register
 
-pub shown : (i : Instruction) → operandsRegisters (operandTrees i) ≡ destinations i ++ sources i
+pub shown : (i : Instruction) → operandsPlaces (operandTrees i) ≡ destinations i ++ sources i
 shown (Arithmetic op dtype sat s) = scalar-registers s
 shown (Vset cmp s) = scalar-registers s
 shown (VsetLanes cmp l) = lanes-registers l
@@ -226,7 +296,7 @@ isNoPair o = not (isEqualPair o)
 -- written or left out, an operand has the same registers, and is a pair or is none
 pub data Alike : List OperandTree → List OperandTree → Type 0 where
   alike-none : Alike [] []
-  alike-more : {s w : OperandTree} {ss ws : List OperandTree} → operandRegisters s ≡ operandRegisters w → isNoPair s ≡ isNoPair w → Alike ss ws → Alike (s ∷ ss) (w ∷ ws)
+  alike-more : {s w : OperandTree} {ss ws : List OperandTree} → operandPlaces s ≡ operandPlaces w → isNoPair s ≡ isNoPair w → Alike ss ws → Alike (s ∷ ss) (w ∷ ws)
 
 alike-self : (ss : List OperandTree) → Alike ss ss
 alike-self [] = alike-none
@@ -260,34 +330,46 @@ one-of : {A : Type 0} (f : OperandTree → A) {o s w : OperandTree} → OneOf o 
 one-of f (as-standard e) h = ap f e
 one-of f (as-written e) h = ap f e ∙ sym h
 
-spelled-registers : {os ss ws : List OperandTree} → Spelled os ss ws → Alike ss ws → operandsRegisters os ≡ operandsRegisters ss
+spelled-registers : {os ss ws : List OperandTree} → Spelled os ss ws → Alike ss ws → operandsPlaces os ≡ operandsPlaces ss
 spelled-registers none alike-none = refl
-spelled-registers (more o e) (alike-more h k a) = rw (one-of operandRegisters o h, spelled-registers e a)
+spelled-registers (more o e) (alike-more h k a) = rw (one-of operandPlaces o h, spelled-registers e a)
 
 spelled-pairs : {os ss ws : List OperandTree} → Spelled os ss ws → Alike ss ws → every isNoPair os ≡ every isNoPair ss
 spelled-pairs none alike-none = refl
 spelled-pairs (more o e) (alike-more h k a) = rw (one-of isNoPair o k, spelled-pairs e a)
 
-guard-registers : (t : GuardTree) (g : Guard) → GuardSpells t g → guardRegisters t ≡ guardSources g
+guard-registers : (t : GuardTree) (g : Guard) → GuardSpells t g → guardPlaces t ≡ guardSources g
 guard-registers unguarded Always s = refl
 guard-registers unguarded (When c) s = absurd s
 guard-registers (guarded n q b) Always s = absurd s
 guard-registers (guarded n q b) (When c) s = rw (s .1)
 
 -- the registers of a line are those that the record names which it spells
-pub registers-named : (t : LineTree) (x : Record) → Spells t x → registersOf t ≡ named x
-registers-named t x s =
+pub places-named : (t : LineTree) (x : Record) → Spells t x → placesOf t ≡ named x
+places-named t x s =
     rw (guard-registers (t .guard) (x .guard) (s .guard), spelled-registers (s .operands .operands) (alike (x .instruction)), shown (x .instruction))
 
 -- refusal 6, of the line and of the record
-pub inside-spelled : (t : LineTree) (x : Record) → Spells t x → numbersInRange x ≡ true → (q : Place) → Listed q (registersOf t) → Inside q
-inside-spelled t x s e q h =
-    ltb-true (numberOf q) (fileSize q) (of-every isInside (named x) (all-inside x ∙ e) q (subst (Listed q) (registers-named t x s) h))
+pub inside-spelled : (t : LineTree) (x : Record) → Spells t x → numbersInRange x ≡ true → (n : ℕ) (q : Place) → Listed (n, q) (registersOf t) → Inside q
+inside-spelled t x s e n q h =
+    ltb-true (numberOf q) (fileSize q)
+    (of-every isInside (named x) (all-inside x ∙ e) q (subst (Listed q) (registers-places t ∙ places-named t x s) (place-listed (registersOf t) n q h)))
 
-pub outside-spelled : (t : LineTree) (x : Record) → Spells t x → numbersInRange x ≡ false → (q : Place) × Listed q (registersOf t) × (fileSize q ≤ numberOf q)
-outside-spelled t x s e =
-    let m = of-none isInside (named x) (all-inside x ∙ e) in
-    (m .0, subst (Listed (m .0)) (sym (registers-named t x s)) (m .1), ltb-false (numberOf (m .0)) (fileSize (m .0)) (m .2))
+first-outside : (rs : List Register) → every isInside (map place rs) ≡ false → (n : ℕ) × FirstOutside rs n
+first-outside [] e = off e
+first-outside (x ∷ rs) e = go (isInside (x .1)) refl (first-outside rs)
+  where
+    go : (b : Bool) → isInside (x .1) ≡ b → (every isInside (map place rs) ≡ false → (n : ℕ) × FirstOutside rs n) → (n : ℕ) × FirstOutside (x ∷ rs) n
+    go true h rest = let m = rest (rw h at e) in (m .0, outside-later (ltb-true (numberOf (x .1)) (fileSize (x .1)) h) (m .1))
+    go false h rest = (x .0, outside-here (ltb-false (numberOf (x .1)) (fileSize (x .1)) h))
+
+pub outside-spelled : (t : LineTree) (x : Record) → Spells t x → numbersInRange x ≡ false → (n : ℕ) × FirstOutside (registersOf t) n
+outside-spelled t x s e = first-outside (registersOf t) (ap (every isInside) (registers-places t ∙ places-named t x s) ∙ all-inside x ∙ e)
+
+-- the first that is outside is one
+pub outside-listed : {rs : List Register} {n : ℕ} → FirstOutside rs n → (q : Place) × Listed (n, q) rs × (fileSize q ≤ numberOf q)
+outside-listed (outside-here {q = q} h) = (q, here refl, h)
+outside-listed (outside-later i o) = let m = outside-listed o in (m .0, later (m .1), m .2)
 
 -- refusal 7, of the line and of the record
 
@@ -345,9 +427,6 @@ apart-spelled t x s e n h =
     let y : true ≡ false = sym k ∙ z in
     let u : _≡_ {A = ℕ} 0 1 = cc in
     omega arith
-
-pub off : {A : Type 0} → true ≡ false → A
-off e = let z : _≡_ {A = ℕ} 0 1 = cc in absurd (omega arith)
 
 -- only a pair of twice the same predicate is one
 equal-pair : (o : OperandTree) → isNoPair o ≡ false → (n : ℕ) × (o ≡ pair (at (pred n)) (at (pred n)))

@@ -2,27 +2,33 @@
 -- nothing.
 use Prim.Native.Nat.{ℕ, _≤_, _<_}
 use native.Mathlib.Omega.{arith}
-use mathlib.Core.Path.{_≡_, refl, sym, ap, subst, _∙_}
-use mathlib.Core.Bool.{true, false}
+use mathlib.Core.Path.{_≡_, refl, sym, ap, ap₂, subst, _∙_}
+use mathlib.Core.Bool.{Bool, true, false, cond}
 use mathlib.Core.List.{List, _∷_}
 use lib.ListN.{length}
-use borrow.Author.Tests.{le-ltb}
+use lib.Dec.{eqb, ltb}
+use borrow.Author.Tests.{eqb-true, ltb-true, ltb-false}
 use Rattle.record.specs.Refusals.{numbersInRange, pairApart, Legal}
 use Rattle.record.specs.declared.Record.{Record}
 use Rattle.rules.specs.Grammar.{LineTree, Shaped}
-use Rattle.rules.specs.Reading.{Spells, Relates, lineLimit, Applies, too-long, shapeless, unknown, rowless, unfit, outside, equal, readingOrder, FirstOf, this, next, Answer, read, refused, Answers, accepts, refuses}
-use Rattle.laws.specs.PlaceLaws.{legal-parts, inside-spelled, outside-spelled, apart-spelled, equal-spelled}
-use Rattle.shape.specs.Line.{shapeOf}
+use Rattle.signs.specs.Lists.{Listed}
+use Rattle.signs.specs.Lists.Listed.{here}
+use Rattle.rules.specs.Reading.{Spells, Relates, lineLimit, Applies, too-long, shapeless, unknown, rowless, unfit, outside, equal, readingOrder, FirstOf, this, next, Placed, at-byte, at-opcode, at-modifier, at-guard, at-operand, at-register, at-second, placeless, Answer, read, refused, refused-at, Answers, accepts, refuses, refuses-at}
+use Rattle.laws.specs.PlaceLaws.{off, legal-parts, inside-spelled, outside-spelled, outside-listed, apart-spelled, equal-spelled}
 use Rattle.heads.specs.Sound.{row-listed}
 use Rattle.read.specs.Refuses.{Refuses, over-160, no-shape, no-opcode, no-row, no-fit, out-of-file, same-pair, Decides, decides-read, decides-refused}
-use Rattle.read.specs.Mirror.{candidateOf, decidedBy, readOf}
+use Rattle.places.specs.Mirror.{placeOf}
+use Rattle.places.specs.PlacedLaws.{placed-2, placed-3, placed-4, placed-5, placed-6, placed-7, placed-only}
+use Rattle.read.specs.declared.Verdict
+use Rattle.read.specs.declared.Verdict.{Verdict}
+use Rattle.read.specs.Mirror.{verdictOf, noPlace, refusedBy, answerBy, readOf}
 use Rattle.read.specs.Laws.{decides, decides-unique, one-record, spelled-by-all}
 
 -- ==== the reader's refusals, said of the line alone
 
 -- one refusal at most
 one-refusal : (l : List ℕ) (n k : ℕ) → Refuses l n → Refuses l k → n ≡ k
-one-refusal l n k r q = let e : refused n ≡ refused k = decides-unique l (refused n) (refused k) (decides-refused r) (decides-refused q) in cc
+one-refusal l n k r q = let e : Verdict.Numbered n ≡ Verdict.Numbered k = decides-unique l (Verdict.Numbered n) (Verdict.Numbered k) (decides-refused r) (decides-refused q) in cc
 
 applies : (l : List ℕ) (n : ℕ) → Refuses l n → Applies l n
 applies l n (over-160 h) = too-long h
@@ -30,7 +36,7 @@ applies l n (no-shape h k) = shapeless k
 applies l n (no-opcode h t s k) = unknown t s k
 applies l n (no-row h t s o k) = rowless t s k
 applies l n (no-fit h t s i r k) = unfit t s i r k
-applies l n (out-of-file h t s m f e) = let q = outside-spelled t m (f .spells) e in outside t s (q .0) (q .1) (q .2)
+applies l n (out-of-file h t s m f e) = let o = outside-spelled t m (f .spells) e in let q = outside-listed (o .1) in outside t s (o .0) (q .0) (q .1) (q .2)
 applies l n (same-pair h t s m f e k) = let q = equal-spelled t m (f .spells) k in equal t s (q .0) (q .1)
 
 -- ==== no earlier one applies
@@ -56,7 +62,7 @@ module _ (l : List ℕ) where
   no-5 h fifth (unfit t s i r z) = fifth (no-fit h t s i r z)
 
   no-6 : length l ≤ lineLimit → (t : LineTree) → Shaped l t → (m : Record) → Spells t m → numbersInRange m ≡ true → Applies l 6 → ⊥
-  no-6 h t s m k e (outside u v q a b) = let c = inside-spelled u m (spelled-by-all l h t u s v m k) e q a in omega arith
+  no-6 h t s m k e (outside u v n q a b) = let c = inside-spelled u m (spelled-by-all l h t u s v m k) e n q a in omega arith
 
   no-7 : length l ≤ lineLimit → (t : LineTree) → Shaped l t → (m : Record) → Spells t m → pairApart m ≡ true → Applies l 7 → ⊥
   no-7 h t s m k e (equal u v n a) = apart-spelled u m (spelled-by-all l h t u s v m k) e n a
@@ -99,18 +105,71 @@ accepted-none l m r h n (rowless t s z) =
 accepted-none l m r h n (unfit t s i w z) =
     let k = legal-parts m h in
     z m (record { spells = spelled-by-all l (r .short) (r .tree) t (r .shaped) s m (r .spells); modifiers = k .0; operands = k .1 })
-accepted-none l m r h n (outside t s q a b) = no-6 l (r .short) (r .tree) (r .shaped) m (r .spells) (legal-parts m h .2) (outside t s q a b)
+accepted-none l m r h n (outside t s k q a b) = no-6 l (r .short) (r .tree) (r .shaped) m (r .spells) (legal-parts m h .2) (outside t s k q a b)
 accepted-none l m r h n (equal t s k a) = no-7 l (r .short) (r .tree) (r .shaped) m (r .spells) (legal-parts m h .3) (equal t s k a)
+
+-- ==== the place
+
+-- the reader's place of a refusal is the rules'
+placed : (l : List ℕ) (n : ℕ) → Refuses l n → (eqb n noPlace ≡ false) → Placed l n (placeOf n l)
+placed l n (over-160 h) e = off e
+placed l n (no-shape h k) e = placed-2 l
+placed l n (no-opcode h t s k) e = placed-3 l h t s
+placed l n (no-row h t s o k) e = placed-4 l h t s
+placed l n (no-fit h t s i r k) e = placed-5 l h t s i r
+placed l n (out-of-file h t s m f k) e = placed-6 l h t s m (f .spells) k
+placed l n (same-pair h t s m f k j) e = placed-7 l h t s m (f .spells) j
+
+-- one place at most
+pub placed-one : (l : List ℕ) → length l ≤ lineLimit → (n p q : ℕ) → Placed l n p → Placed l n q → p ≡ q
+placed-one l h n p q x y = placed-only l h n p x ∙ sym (placed-only l h n q y)
+
+-- and 1 has none
+after-1 : (l : List ℕ) (n p : ℕ) → Placed l n p → 1 < n
+after-1 l n p (at-byte f) = omega arith
+after-1 l n p (at-opcode t s) = omega arith
+after-1 l n p (at-modifier t s k f) = omega arith
+after-1 l n p (at-guard t s k) = omega arith
+after-1 l n p (at-operand t s g h k f) = omega arith
+after-1 l n p (at-register t s o) = omega arith
+after-1 l n p (at-second t s q e) = omega arith
+
+is-1 : (n : ℕ) → Listed n placeless → n ≡ 1
+is-1 n (here e) = e
+
+pub placeless-unplaced : (l : List ℕ) (n p : ℕ) → Listed n placeless → Placed l n p → ⊥
+placeless-unplaced l n p h x = let e = is-1 n h in let k = after-1 l n p x in omega arith
+
+-- a line that gets another is not too long
+pub short-line : (l : List ℕ) (n p : ℕ) → FirstOf l n readingOrder → Placed l n p → length l ≤ lineLimit
+short-line l n p (this a) x = let k = after-1 l n p x in absurd (omega arith)
+short-line l n p (next z f) x = go (ltb lineLimit (length l)) refl
+  where
+    go : (b : Bool) → ltb lineLimit (length l) ≡ b → length l ≤ lineLimit
+    go true e = absurd (z (too-long (ltb-true lineLimit (length l) e)))
+    go false e = ltb-false lineLimit (length l) e
 
 -- ==== every line
 
 -- the reader's answer is the rules'
-answered : (l : List ℕ) (a : Answer) → Decides l a → Answers l a
-answered l (read m) (decides-read k r h) = accepts m r h
-answered l (refused n) (decides-refused r) = refuses (first-of l n r)
+refused-answers : (l : List ℕ) (n : ℕ) → Refuses l n → Answers l (refusedBy n l)
+unfolding refusedBy
+refused-answers l n r = go (eqb n noPlace) refl
+  where
+    go : (b : Bool) → eqb n noPlace ≡ b → Answers l (cond b (refused n) (refused-at n (placeOf n l)))
+    go true e = refuses (first-of l n r) (here (eqb-true n noPlace e))
+    go false e = refuses-at (first-of l n r) (placed l n r e)
+
+answered : (l : List ℕ) (v : Verdict) → Decides l v → Answers l (answerBy v l)
+answered l (Verdict.Accepted m) (decides-read k r h) = accepts m r h
+answered l (Verdict.Numbered n) (decides-refused r) = refused-answers l n r
+
+pub answers-by : (l : List ℕ) (v : Verdict) → v ≡ verdictOf l → Answers l (answerBy v l)
+answers-by l v e = answered l v (subst (Decides l) (sym e) (decides l))
 
 pub answers : (l : List ℕ) → Answers l (readOf l)
-answers l = answered l (readOf l) (decides l)
+unfolding readOf
+answers l = answers-by l (verdictOf l) refl
 
 -- ==== and no other
 
@@ -129,17 +188,34 @@ first-applies l n (x ∷ ns) (next a p) = first-applies l n ns p
 -- no line gets two answers
 pub answers-unique : (l : List ℕ) (a b : Answer) → Answers l a → Answers l b → a ≡ b
 answers-unique l (read m) (read k) (accepts x r h) (accepts y s i) = ap read (one-record l m k r s)
-answers-unique l (read m) (refused k) (accepts x r h) (refuses q) = absurd (accepted-none l m r h k (first-applies l k readingOrder q))
-answers-unique l (refused n) (read k) (refuses p) (accepts y s i) = absurd (accepted-none l k s i n (first-applies l n readingOrder p))
-answers-unique l (refused n) (refused k) (refuses p) (refuses q) = ap refused (first-one l n k readingOrder p q)
+answers-unique l (read m) (refused k) (accepts x r h) (refuses q i) = absurd (accepted-none l m r h k (first-applies l k readingOrder q))
+answers-unique l (read m) (refused-at k b) (accepts x r h) (refuses-at q i) = absurd (accepted-none l m r h k (first-applies l k readingOrder q))
+answers-unique l (refused n) (read k) (refuses p j) (accepts y s i) = absurd (accepted-none l k s i n (first-applies l n readingOrder p))
+answers-unique l (refused n) (refused k) (refuses p j) (refuses q i) = ap refused (first-one l n k readingOrder p q)
+answers-unique l (refused n) (refused-at k b) (refuses p j) (refuses-at q i) =
+    absurd (placeless-unplaced l n b j (subst (λ (x : ℕ). Placed l x b) (first-one l k n readingOrder q p) i))
+answers-unique l (refused-at n a) (read k) (refuses-at p j) (accepts y s i) = absurd (accepted-none l k s i n (first-applies l n readingOrder p))
+answers-unique l (refused-at n a) (refused k) (refuses-at p j) (refuses q i) =
+    absurd (placeless-unplaced l k a i (subst (λ (x : ℕ). Placed l x a) (first-one l n k readingOrder p q) j))
+answers-unique l (refused-at n a) (refused-at k b) (refuses-at p j) (refuses-at q i) =
+    let e = first-one l n k readingOrder p q in
+    ap₂ refused-at e (placed-one l (short-line l k b q i) k a b (subst (λ (x : ℕ). Placed l x a) e j) i)
 
 -- the first that applies is the reader's refusal: both forms say the same
 pub of-first : (l : List ℕ) (n : ℕ) → FirstOf l n readingOrder → Refuses l n
-of-first l n f = go (readOf l) (decides l) (answers-unique l (readOf l) (refused n) (answers l) (refuses f))
+of-first l n f = go (verdictOf l) (decides l)
   where
-    go : (a : Answer) → Decides l a → a ≡ refused n → Refuses l n
-    go (read m) d e = let z : _≡_ {A = ℕ} 0 1 = cc in absurd (omega arith)
-    go (refused k) (decides-refused r) e = let h : k ≡ n = cc in subst (Refuses l) h r
+    go : (v : Verdict) → Decides l v → Refuses l n
+    go (Verdict.Accepted m) (decides-read k r h) = absurd (accepted-none l m r h n (first-applies l n readingOrder f))
+    go (Verdict.Numbered k) (decides-refused r) = subst (Refuses l) (first-one l k n readingOrder (first-of l k r) f) r
+
+-- each refusal but 1 has a place
+pub placed-some : (l : List ℕ) (n : ℕ) → FirstOf l n readingOrder → (Listed n placeless → ⊥) → (p : ℕ) × Placed l n p
+placed-some l n f k = go (eqb n noPlace) refl
+  where
+    go : (b : Bool) → eqb n noPlace ≡ b → (p : ℕ) × Placed l n p
+    go true e = absurd (k (here (eqb-true n noPlace e)))
+    go false e = (placeOf n l, placed l n (of-first l n f) e)
 
 -- a line to which no refusal applies is accepted
 pub none-accepted : (l : List ℕ) → ((n : ℕ) → Applies l n → ⊥) → (m : Record) × Answers l (read m)
@@ -147,24 +223,5 @@ none-accepted l z = go (readOf l) (answers l)
   where
     go : (a : Answer) → Answers l a → (m : Record) × Answers l (read m)
     go (read m) (accepts x r h) = (m, accepts m r h)
-    go (refused n) (refuses p) = absurd (z n (first-applies l n readingOrder p))
-
--- ==== as the code decides
-
-pub ends-long : (l : List ℕ) → lineLimit < length l → Answers l (refused 1)
-ends-long l h = refuses (this (too-long h))
-
--- without the shape the later stages do not count
-pub ends-unshaped : (l : List ℕ) → length l ≤ lineLimit → shapeOf l .good ≡ false → Answers l (refused 2)
-unfolding readOf
-ends-unshaped l h e = subst (Answers l) is (answers l)
-  where
-    is : readOf l ≡ refused 2
-    is = rw (le-ltb lineLimit (length l) h, e)
-
-pub ends-shaped : (l : List ℕ) (a : Answer) → length l ≤ lineLimit → shapeOf l .good ≡ true → a ≡ decidedBy false true (candidateOf (shapeOf l .parts)) → Answers l a
-unfolding readOf
-ends-shaped l a h e d = subst (Answers l) (is ∙ sym d) (answers l)
-  where
-    is : readOf l ≡ decidedBy false true (candidateOf (shapeOf l .parts))
-    is = rw (le-ltb lineLimit (length l) h, e)
+    go (refused n) (refuses p i) = absurd (z n (first-applies l n readingOrder p))
+    go (refused-at n p) (refuses-at q i) = absurd (z n (first-applies l n readingOrder q))

@@ -3,7 +3,7 @@ use Prim.Native.Nat.{ℕ, zero, suc, _≤_, _<_}
 use native.Mathlib.Omega.{arith}
 use mathlib.Core.Path.{_≡_, refl, sym, ap, subst, _∙_}
 use mathlib.Core.Bool.{Bool, true, false, not, _&&_}
-use mathlib.Core.List.{List, [], _∷_, map}
+use mathlib.Core.List.{List}
 use lib.ListN.{length}
 use lib.Dec.{ltb}
 use borrow.Author.Tests.{lt-ltb, le-ltb, ltb-true, ltb-false}
@@ -12,27 +12,19 @@ use Rattle.record.specs.Operands.{operandsFit}
 use Rattle.record.specs.Refusals.{numbersInRange, pairApart, isLegal, Legal}
 use Rattle.record.specs.declared.Guard.{Guard}
 use Rattle.record.specs.declared.Guard.the-variants.{Always, When}
-use Rattle.record.specs.declared.Form.{Form}
-use Rattle.record.specs.declared.Form.the-variants.{Plain, Merge, Combine}
-use Rattle.record.specs.declared.Combination.{Combination}
-use Rattle.record.specs.declared.Combination.the-variants.{Alone, With}
-use Rattle.record.specs.declared.SlctType
-use Rattle.record.specs.declared.SlctType.{SlctType}
 use Rattle.record.specs.declared.Instruction.{Instruction}
-use Rattle.record.specs.declared.Instruction.the-variants.{Arithmetic, Vset, VsetLanes, ArithmeticLanes, Set, Setp, Selp, Slct}
 use Rattle.record.specs.declared.Record.{Record}
 use Rattle.record.specs.Registers.{word, double, pred}
 use Rattle.rules.specs.Shape.{Name}
-use Rattle.rules.specs.Names.{formOp2, combinationNames, headNames}
+use Rattle.rules.specs.Names.{headNames}
 use Rattle.rules.specs.Grammar.GoodNames.{more as name-more}
-use Rattle.rules.specs.Grammar.GoodOthers.{none as no-other, more as other-more}
-use Rattle.rules.specs.Grammar.GoodOperands.{none as no-operand, more as operand-more}
-use Rattle.rules.specs.Grammar.{LineTree, GuardTree, unguarded, guarded, Divided, namesOf, operandsOf, GoodOthers, GoodOperands, Shaped}
-use Rattle.rules.specs.Reading.{GuardSpells, Spells, Relates, lineLimit, opcodes, Row, Fits, Answer, read, refused}
+use Rattle.rules.specs.Grammar.GoodOperands.{more as operand-more}
+use Rattle.rules.specs.Grammar.{LineTree, GuardTree, unguarded, guarded, namesOf, operandsOf, Shaped}
+use Rattle.rules.specs.Reading.{GuardSpells, Spells, Relates, lineLimit, opcodes, Row, Fits}
 use Rattle.signs.specs.Lists.{Listed}
 use Rattle.read.specs.Refuses.{Refuses, over-160, no-shape, no-opcode, no-row, no-fit, out-of-file, same-pair, Decides, decides-read, decides-refused}
 use Rattle.tree.specs.Seen.{seen, seenGuard, seenHead, seenOperands}
-use Rattle.tree.specs.Blank.{blank, blankForm, blankCombination}
+use Rattle.tree.specs.Blank.{blank}
 use Rattle.tree.specs.declared.Guarding.{Guarding}
 use Rattle.tree.specs.declared.Parts.{Parts}
 use Rattle.laws.specs.PlaceLaws.{legal-parts}
@@ -40,7 +32,7 @@ use Rattle.shape.specs.Line.{shapeOf}
 use Rattle.shape.specs.Complete.{shape-complete}
 use Rattle.shape.specs.Sound.{shape-sound}
 use Rattle.heads.specs.Rows.{rowOf}
-use Rattle.heads.specs.Complete.{row-complete, same-row, wrong-no-row, fit-blank}
+use Rattle.heads.specs.Complete.{row-complete, same-row, wrong-no-row, fit-blank, blank-names}
 use Rattle.heads.specs.Sound.{row-sound, row-listed, no-opcode-known, wrong-known}
 use Rattle.heads.specs.declared.Found
 use Rattle.heads.specs.declared.Found.{Found}
@@ -50,33 +42,16 @@ use Rattle.fills.specs.FillSound.{fill-sound}
 use Rattle.fills.specs.declared.Filled
 use Rattle.fills.specs.declared.Filled.{Filled}
 use Rattle.refusals.specs.Order.{firstReading}
-use Rattle.read.specs.Mirror.{guardGood, guardIn, instructionIn, fullIs, filledIn, recordOf, candidateBy, candidateOf, fitBy, refusalOf, decided, decidedBy, readOf}
+use Rattle.places.specs.Mirror.{guardGood}
+use Rattle.places.specs.PlacedLaws.{guard-good, good-operands}
+use Rattle.read.specs.declared.Verdict
+use Rattle.read.specs.declared.Verdict.{Verdict}
+use Rattle.read.specs.Mirror.{guardIn, instructionIn, fullIs, filledIn, recordOf, candidateBy, candidateOf, fitBy, refusalOf, decided, decidedBy, verdictOf}
 
 -- ==== what stands between the rooms
 
 off : {A : Type 0} {t : Bool} → t ≡ true → t ≡ false → A
 off e f = let z : true ≡ false = sym e ∙ f in let y : _≡_ {A = ℕ} 0 1 = cc in absurd (omega arith)
-
--- the operands of a head that was left blank do not count
-form-op2 : (f : Form) → formOp2 (blankForm f) ≡ formOp2 f
-form-op2 (Plain d) = refl
-form-op2 (Merge d sel c) = refl
-form-op2 (Combine op d c) = refl
-
-combination-names : (c : Combination) → combinationNames (blankCombination c) ≡ combinationNames c
-combination-names Alone = refl
-combination-names (With op c) = refl
-
-blank-names : (i : Instruction) → headNames (blank i) ≡ headNames i
-blank-names (Arithmetic op dtype sat s) = rw (form-op2 (s .form))
-blank-names (Vset cmp s) = rw (form-op2 (s .form))
-blank-names (VsetLanes cmp l) = refl
-blank-names (ArithmeticLanes op dtype sat l) = refl
-blank-names (Set dtype d s) = rw (combination-names (s .combination))
-blank-names (Setp d s) = rw (combination-names (s .combination))
-blank-names (Selp s c) = refl
-blank-names (Slct SlctType.S32 s c) = refl
-blank-names (Slct (SlctType.F32 ftz) s c) = refl
 
 -- legality, rule by rule
 all-legal : (m : Record) → modifiersFit m ≡ true → operandsFit m ≡ true → numbersInRange m ≡ true → pairApart m ≡ true → Legal m
@@ -85,20 +60,19 @@ all-legal m a b c d = rw (a, b, c, d)
 
 -- the guard that the tree spells is the one that is kept
 guard-found : (g : GuardTree) (h : Guard) → GuardSpells g h → (guardGood (seenGuard g) ≡ true) × (guardIn (seenGuard g) ≡ h)
-guard-found unguarded Always s = (refl, refl)
-guard-found unguarded (When c) s = absurd s
-guard-found (guarded n q b) Always s = absurd s
-guard-found (guarded n q b) (When c) s = rw (s .0, s .1) (refl, refl)
+guard-found g h s = (guard-good g h s, guard-is g h s)
+  where
+    guard-is : (g : GuardTree) (h : Guard) → GuardSpells g h → guardIn (seenGuard g) ≡ h
+    guard-is unguarded Always s = refl
+    guard-is unguarded (When c) s = absurd s
+    guard-is (guarded n q b) Always s = absurd s
+    guard-is (guarded n q b) (When c) s = rw (s .0, s .1) refl
 
 guard-spells : (g : GuardTree) → guardGood (seenGuard g) ≡ true → GuardSpells g (guardIn (seenGuard g))
 guard-spells unguarded e = tt
 guard-spells (guarded n (word k) b) e = off e refl
 guard-spells (guarded n (double k) b) e = off e refl
 guard-spells (guarded n (pred k) b) e = (refl, refl)
-
-good-operands : (ds : List Divided) → GoodOthers ds → GoodOperands (map (λ (d : Divided). d .operand) ds)
-good-operands [] no-other = no-operand
-good-operands (d ∷ ds) (other-more g gs) = operand-more (g .operand) (good-operands ds gs)
 
 -- ==== a tree and the records that it spells
 
@@ -134,7 +108,7 @@ module _ (l : List ℕ) (short : length l ≤ lineLimit) (t : LineTree) (shaped 
       (shape-complete t (shaped .good) (rw (shaped .text) short))
 
   -- what the reader says of it, by its tree
-  abbrev said : Found → Filled → Answer
+  abbrev said : Found → Filled → Verdict
   said found filled = decidedBy false true (candidateBy (seenGuard (t .guard)) found filled)
 
   abbrev found : Found
@@ -143,12 +117,12 @@ module _ (l : List ℕ) (short : length l ≤ lineLimit) (t : LineTree) (shaped 
   abbrev filledBy : Found → Filled
   filledBy f = filledOf (instructionIn f) (seenOperands (operandsOf t))
 
-  is-said : readOf l ≡ said found (filledBy found)
-  unfolding readOf candidateOf
+  is-said : verdictOf l ≡ said found (filledBy found)
+  unfolding verdictOf candidateOf
   is-said = rw (le-ltb lineLimit (length l) short, is-good .0, is-good .1)
 
   pub spelled-said : (m : Record) → Spells t m
-      → readOf l ≡ decidedBy false true (record { spelled = m; opcode = true; row = modifiersFit m; fit = operandsFit m })
+      → verdictOf l ≡ decidedBy false true (record { spelled = m; opcode = true; row = modifiersFit m; fit = operandsFit m })
   spelled-said m s =
       let f = spelled-found t m s in
       let g = guard-found (t .guard) (m .guard) (s .guard) in
@@ -184,7 +158,7 @@ module _ (l : List ℕ) (short : length l ≤ lineLimit) (t : LineTree) (shaped 
       }))
   operands-answer i e f x q = go x q (guardGood (seenGuard (t .guard))) refl
     where
-      row : Row t i
+      row : Row (namesOf t) i
       row = record { names = row-sound (namesOf t) i (name-more (shaped .good .opcode) (shaped .good .modifiers)) e .0; fit = f }
 
       g : Guarding
@@ -227,7 +201,7 @@ module _ (l : List ℕ) (short : length l ≤ lineLimit) (t : LineTree) (shaped 
       r = row-sound (namesOf t) i (name-more (shaped .good .opcode) (shaped .good .modifiers)) e
 
       -- rows of one head fit together
-      unfit : instructionModifiersFit i ≡ false → (j : Instruction) → Row t j → ⊥
+      unfit : instructionModifiersFit i ≡ false → (j : Instruction) → Row (namesOf t) j → ⊥
       unfit w j q =
           let z = same-row j i (sym (q .names) ∙ r .0) in
           off (q .fit) (sym (fit-blank j) ∙ ap instructionModifiersFit z ∙ fit-blank i ∙ w)
@@ -241,14 +215,14 @@ module _ (l : List ℕ) (short : length l ≤ lineLimit) (t : LineTree) (shaped 
       fit true w = operands-answer i e w (filledBy (Found.Row i)) refl
       fit false w = decides-refused (no-row short t shaped (row-listed i (t .opcode) (t .modifiers) (r .0)) (unfit w))
 
-  pub shaped-answers : Decides l (readOf l)
+  pub shaped-answers : Decides l (verdictOf l)
   shaped-answers = subst (Decides l) (sym is-said) (found-answers found refl)
 
 -- ==== every line
 
 -- every line gets the answer that the grammar gives it
-pub decides : (l : List ℕ) → Decides l (readOf l)
-unfolding readOf
+pub decides : (l : List ℕ) → Decides l (verdictOf l)
+unfolding verdictOf
 decides l = go (ltb lineLimit (length l)) refl
   where
     shapes : length l ≤ lineLimit → (b : Bool) → shapeOf l .good ≡ b → Decides l (decidedBy false b (candidateOf (shapeOf l .parts)))
@@ -264,33 +238,33 @@ decides l = go (ltb lineLimit (length l)) refl
 -- ==== and no other
 
 module _ (l : List ℕ) (short : length l ≤ lineLimit) (t : LineTree) (shaped : Shaped l t) where
-  found-only : (a : Answer) → ((f : Found) → found l short t shaped ≡ f → said l short t shaped f (filledBy l short t shaped f) ≡ a) → readOf l ≡ a
+  found-only : (a : Verdict) → ((f : Found) → found l short t shaped ≡ f → said l short t shaped f (filledBy l short t shaped f) ≡ a) → verdictOf l ≡ a
   found-only a k = is-said l short t shaped ∙ k (found l short t shaped) refl
 
   row-of : (i : Instruction) → found l short t shaped ≡ Found.Row i → namesOf t ≡ headNames i
   row-of i e = row-sound (namesOf t) i (name-more (shaped .good .opcode) (shaped .good .modifiers)) e .0
 
-  no-opcode-only : (Listed (t .opcode) opcodes → ⊥) → readOf l ≡ refused 3
-  no-opcode-only k = found-only (refused 3) go
+  no-opcode-only : (Listed (t .opcode) opcodes → ⊥) → verdictOf l ≡ Verdict.Numbered 3
+  no-opcode-only k = found-only (Verdict.Numbered 3) go
     where
-      go : (f : Found) → found l short t shaped ≡ f → said l short t shaped f (filledBy l short t shaped f) ≡ refused 3
+      go : (f : Found) → found l short t shaped ≡ f → said l short t shaped f (filledBy l short t shaped f) ≡ Verdict.Numbered 3
       go Found.NoOpcode e = refl
       go (Found.Wrong j) e = absurd (k (wrong-known (t .opcode) (t .modifiers) j (shaped .good .opcode) e))
       go (Found.Row i) e = absurd (k (row-listed i (t .opcode) (t .modifiers) (row-of i e)))
 
-  no-row-only : Listed (t .opcode) opcodes → ((i : Instruction) → Row t i → ⊥) → readOf l ≡ refused 4
-  no-row-only o k = found-only (refused 4) go
+  no-row-only : Listed (t .opcode) opcodes → ((i : Instruction) → Row (namesOf t) i → ⊥) → verdictOf l ≡ Verdict.Numbered 4
+  no-row-only o k = found-only (Verdict.Numbered 4) go
     where
       unfit : (i : Instruction) → namesOf t ≡ headNames i → (b : Bool) → instructionModifiersFit i ≡ b → instructionModifiersFit i ≡ false
       unfit i n true e = absurd (k i (record { names = n; fit = e }))
       unfit i n false e = e
 
-      go : (f : Found) → found l short t shaped ≡ f → said l short t shaped f (filledBy l short t shaped f) ≡ refused 4
+      go : (f : Found) → found l short t shaped ≡ f → said l short t shaped f (filledBy l short t shaped f) ≡ Verdict.Numbered 4
       go Found.NoOpcode e = absurd (no-opcode-known (t .opcode) (t .modifiers) (shaped .good .opcode) e o)
       go (Found.Wrong j) e = refl
       go (Found.Row i) e = rw (unfit i (row-of i e) (instructionModifiersFit i) refl)
 
-  no-fit-only : (i : Instruction) → Row t i → ((m : Record) → Fits t m → ⊥) → readOf l ≡ refused 5
+  no-fit-only : (i : Instruction) → Row (namesOf t) i → ((m : Record) → Fits t m → ⊥) → verdictOf l ≡ Verdict.Numbered 5
   no-fit-only i r k =
       is-said l short t shaped ∙ rw e (rw (fits) (go (filledBy l short t shaped (Found.Row (blank i))) refl (guardGood g) refl))
     where
@@ -304,7 +278,7 @@ module _ (l : List ℕ) (short : length l ≤ lineLimit) (t : LineTree) (shaped 
       fits = fit-blank i ∙ r .fit
 
       go : (x : Filled) → filledBy l short t shaped (Found.Row (blank i)) ≡ x → (b : Bool) → guardGood g ≡ b
-          → decidedBy false true (record { spelled = recordOf (guardIn g) (filledIn x); opcode = true; row = true; fit = b && fullIs x && operandsFit (recordOf (guardIn g) (filledIn x)) }) ≡ refused 5
+          → decidedBy false true (record { spelled = recordOf (guardIn g) (filledIn x); opcode = true; row = true; fit = b && fullIs x && operandsFit (recordOf (guardIn g) (filledIn x)) }) ≡ Verdict.Numbered 5
       go x q false b = refl
       go (Filled.Wrong j) q true b = refl
       go (Filled.Full j) q true b = fit (operandsFit (recordOf (guardIn g) j)) refl
@@ -313,29 +287,29 @@ module _ (l : List ℕ) (short : length l ≤ lineLimit) (t : LineTree) (shaped 
           s = found-spells l short t shaped (blank i) j e q b
 
           fit : (c : Bool) → operandsFit (recordOf (guardIn g) j) ≡ c
-              → decidedBy false true (record { spelled = recordOf (guardIn g) j; opcode = true; row = true; fit = c }) ≡ refused 5
+              → decidedBy false true (record { spelled = recordOf (guardIn g) j; opcode = true; row = true; fit = c }) ≡ Verdict.Numbered 5
           fit false c = refl
           fit true c =
               absurd
               (k (recordOf (guardIn g) j)
               (record { spells = s .0; modifiers = sym (fit-blank j) ∙ ap instructionModifiersFit (s .1) ∙ fits; operands = c }))
 
-  fits-only : (m : Record) → Fits t m → readOf l ≡ decidedBy false true (record { spelled = m; opcode = true; row = true; fit = true })
+  fits-only : (m : Record) → Fits t m → verdictOf l ≡ decidedBy false true (record { spelled = m; opcode = true; row = true; fit = true })
   fits-only m f = spelled-said l short t shaped m (f .spells) ∙ rw (f .modifiers, f .operands)
 
-no-shape-only : (l : List ℕ) → length l ≤ lineLimit → ((t : LineTree) → Shaped l t → ⊥) → readOf l ≡ refused 2
-unfolding readOf
+no-shape-only : (l : List ℕ) → length l ≤ lineLimit → ((t : LineTree) → Shaped l t → ⊥) → verdictOf l ≡ Verdict.Numbered 2
+unfolding verdictOf
 no-shape-only l h k = rw (le-ltb lineLimit (length l) h) (go (shapeOf l .good) refl)
   where
-    go : (b : Bool) → shapeOf l .good ≡ b → decidedBy false b (candidateOf (shapeOf l .parts)) ≡ refused 2
+    go : (b : Bool) → shapeOf l .good ≡ b → decidedBy false b (candidateOf (shapeOf l .parts)) ≡ Verdict.Numbered 2
     go true e = let s = shape-sound l h e in absurd (k (s .tree) (s .shaped))
     go false e = refl
 
-over-only : (l : List ℕ) → lineLimit < length l → readOf l ≡ refused 1
-unfolding readOf
+over-only : (l : List ℕ) → lineLimit < length l → verdictOf l ≡ Verdict.Numbered 1
+unfolding verdictOf
 over-only l h = rw (lt-ltb lineLimit (length l) h)
 
-refusal-only : (l : List ℕ) (n : ℕ) → Refuses l n → readOf l ≡ refused n
+refusal-only : (l : List ℕ) (n : ℕ) → Refuses l n → verdictOf l ≡ Verdict.Numbered n
 refusal-only l n (over-160 h) = over-only l h
 refusal-only l n (no-shape h k) = no-shape-only l h k
 refusal-only l n (no-opcode h t s k) = no-opcode-only l h t s k
@@ -344,17 +318,17 @@ refusal-only l n (no-fit h t s i r k) = no-fit-only l h t s i r k
 refusal-only l n (out-of-file h t s m f e) = fits-only l h t s m f ∙ rw e
 refusal-only l n (same-pair h t s m f e q) = fits-only l h t s m f ∙ rw (e, q)
 
-related-only : (l : List ℕ) (m : Record) → Relates l m → Legal m → readOf l ≡ read m
+related-only : (l : List ℕ) (m : Record) → Relates l m → Legal m → verdictOf l ≡ Verdict.Accepted m
 related-only l m r h =
     let k = legal-parts m h in
     fits-only l (r .short) (r .tree) (r .shaped) m (record { spells = r .spells; modifiers = k .0; operands = k .1 }) ∙ rw (k .2, k .3)
 
-pub only : (l : List ℕ) (a : Answer) → Decides l a → readOf l ≡ a
+pub only : (l : List ℕ) (a : Verdict) → Decides l a → verdictOf l ≡ a
 only l a (decides-read m r h) = related-only l m r h
 only l a (decides-refused {n} r) = refusal-only l n r
 
 -- no line gets two decides
-pub decides-unique : (l : List ℕ) (a b : Answer) → Decides l a → Decides l b → a ≡ b
+pub decides-unique : (l : List ℕ) (a b : Verdict) → Decides l a → Decides l b → a ≡ b
 decides-unique l a b x y = sym (only l a x) ∙ only l b y
 
 -- no line is related to two records
@@ -382,14 +356,14 @@ pub ends-full : (good : Bool) (m : Record) → decidedBy false true (fitBy good 
 ends-full true m = refl
 ends-full false m = refl
 
-pub ends-wrong : (good : Bool) (m : Record) → refused 5 ≡ decidedBy false true (record { spelled = m; opcode = true; row = true; fit = good && false && operandsFit m })
+pub ends-wrong : (good : Bool) (m : Record) → Verdict.Numbered 5 ≡ decidedBy false true (record { spelled = m; opcode = true; row = true; fit = good && false && operandsFit m })
 ends-wrong true m = refl
 ends-wrong false m = refl
 
 -- a number, 0 for none
-pub ends-refused : (good : Bool) (m : Record) (n : ℕ) → n ≡ refusalOf false true (fitBy good m) → (n ≡ 0 → ⊥) → refused n ≡ decidedBy false true (fitBy good m)
+pub ends-refused : (good : Bool) (m : Record) (n : ℕ) → n ≡ refusalOf false true (fitBy good m) → (n ≡ 0 → ⊥) → Verdict.Numbered n ≡ decidedBy false true (fitBy good m)
 ends-refused good m zero e h = absurd (h refl)
 ends-refused good m (suc n) e h = rw (← e)
 
-pub ends-read : (good : Bool) (m : Record) (n : ℕ) → n ≡ refusalOf false true (fitBy good m) → n ≡ 0 → read m ≡ decidedBy false true (fitBy good m)
+pub ends-read : (good : Bool) (m : Record) (n : ℕ) → n ≡ refusalOf false true (fitBy good m) → n ≡ 0 → Verdict.Accepted m ≡ decidedBy false true (fitBy good m)
 ends-read good m n e z = rw (← e, z)

@@ -1,9 +1,9 @@
 -- What the reader computes, stage by stage, on lists. No one has to believe it: specs/Laws.antt joins it to the grammar.
 use Prim.Native.Nat.{ℕ, zero, suc}
-use mathlib.Core.Bool.{Bool, true, false, not, _&&_}
+use mathlib.Core.Bool.{Bool, true, false, not, _&&_, cond}
 use mathlib.Core.List.{List}
 use lib.ListN.{length}
-use lib.Dec.{ltb}
+use lib.Dec.{eqb, ltb}
 use Rattle.record.specs.Modifiers.{modifiersFit}
 use Rattle.record.specs.Operands.{operandsFit}
 use Rattle.record.specs.Refusals.{numbersInRange, pairApart}
@@ -14,7 +14,7 @@ use Rattle.record.specs.declared.Guard.the-variants.{Always, When}
 use Rattle.record.specs.declared.Instruction.{Instruction}
 use Rattle.record.specs.declared.Instruction.the-variants.{Selp}
 use Rattle.record.specs.declared.Record.{Record}
-use Rattle.rules.specs.Reading.{lineLimit, Answer, read, refused}
+use Rattle.rules.specs.Reading.{lineLimit, Answer, read, refused, refused-at}
 use Rattle.tree.specs.Blank.{noPred, blankChoice}
 use Rattle.tree.specs.declared.Place
 use Rattle.tree.specs.declared.Place.{Place}
@@ -29,6 +29,9 @@ use Rattle.fills.specs.Fills.{filledOf}
 use Rattle.fills.specs.declared.Filled
 use Rattle.fills.specs.declared.Filled.{Filled}
 use Rattle.refusals.specs.Order.{firstReading}
+use Rattle.places.specs.Mirror.{guardGood, placeOf}
+use Rattle.read.specs.declared.Verdict
+use Rattle.read.specs.declared.Verdict.{Verdict}
 
 -- ==== what the head gave
 
@@ -62,19 +65,10 @@ filledIn (Filled.Wrong k) = noInstruction
 
 -- ==== the guard
 
-abbrev pub predIs : Place → Bool
-predIs (Place.Word w) = false
-predIs (Place.Double d) = false
-predIs (Place.Pred q) = true
-
 abbrev pub predIn : Place → Pred
 predIn (Place.Word w) = noPred
 predIn (Place.Double d) = noPred
 predIn (Place.Pred q) = q
-
-abbrev pub guardGood : Guarding → Bool
-guardGood Unguarded = true
-guardGood (Guarded negated p) = predIs p
 
 abbrev pub guardAt : Bool → Pred → Guard
 guardAt negated q = When (record { inverted = negated; pred = q })
@@ -115,12 +109,27 @@ abbrev pub refusalOf : Bool → Bool → Candidate → ℕ
 refusalOf tooLong good c =
     firstReading tooLong (not good) (not (c .opcode)) (not (c .row)) (not (c .fit)) (not (numbersInRange (c .spelled))) (not (pairApart (c .spelled)))
 
-abbrev pub decided : ℕ → Record → Answer
-decided zero m = read m
-decided (suc n) m = refused (suc n)
+abbrev pub decided : ℕ → Record → Verdict
+decided zero m = Verdict.Accepted m
+decided (suc n) m = Verdict.Numbered (suc n)
 
-abbrev pub decidedBy : Bool → Bool → Candidate → Answer
+abbrev pub decidedBy : Bool → Bool → Candidate → Verdict
 decidedBy tooLong good c = decided (refusalOf tooLong good c) (c .spelled)
 
+unfoldable pub verdictOf : List ℕ → Verdict
+verdictOf l = decidedBy (ltb lineLimit (length l)) (shapeOf l .good) (candidateOf (shapeOf l .parts))
+
+-- ==== the answer: the first refusal carries no place
+
+abbrev pub noPlace : ℕ
+noPlace = 1
+
+unfoldable pub refusedBy : ℕ → List ℕ → Answer
+refusedBy n l = cond (eqb n noPlace) (refused n) (refused-at n (placeOf n l))
+
+abbrev pub answerBy : Verdict → List ℕ → Answer
+answerBy (Verdict.Accepted m) l = read m
+answerBy (Verdict.Numbered n) l = refusedBy n l
+
 unfoldable pub readOf : List ℕ → Answer
-readOf l = decidedBy (ltb lineLimit (length l)) (shapeOf l .good) (candidateOf (shapeOf l .parts))
+readOf l = answerBy (verdictOf l) l

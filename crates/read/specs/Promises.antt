@@ -1,16 +1,17 @@
 -- Document 01's demand 3, and reading back of demand 2, as laws of the grammar and of `Answers`. Assumes nothing.
 use mathlib.Core.Path.{_≡_, refl, ap, subst}
 use mathlib.Core.List.{List, _∷_}
-use Prim.Native.Nat.{ℕ}
-use native.Mathlib.Omega.{arith}
+use lib.ListN.{length}
+use Prim.Native.Nat.{ℕ, _≤_}
 use Rattle.record.specs.Refusals.{Legal}
 use Rattle.record.specs.declared.Record.{Record}
 use Rattle.rules.specs.StandardLine.{standard}
 use Rattle.laws.specs.StandardTree.{standard-relates}
-use Rattle.rules.specs.Reading.{Relates, Applies, readingOrder, FirstOf, this, next, Answer, read, refused, Answers, accepts, refuses}
+use Rattle.rules.specs.Reading.{Relates, lineLimit, Applies, readingOrder, FirstOf, this, next, Placed, placeless, Answer, read, refused, refused-at, Answers, accepts, refuses, refuses-at}
 use Rattle.signs.specs.Lists.{Listed}
 use Rattle.signs.specs.Lists.Listed.{here, later}
-use Rattle.read.specs.Answering.{answers, answers-unique, accepted-none}
+use Rattle.read.specs.Answering.{answers, answers-unique, first-applies, accepted-none, short-line}
+use Rattle.places.specs.PlacedLaws.{placed-within}
 use Rattle.read.specs.Mirror.{readOf}
 
 -- a line is accepted exactly when the grammar relates it to a legal record
@@ -20,12 +21,18 @@ accepted-related l m (accepts n r h) = (r, h)
 pub related-accepted : (l : List ℕ) (m : Record) → Relates l m → Legal m → Answers l (read m)
 related-accepted l m r h = accepts m r h
 
--- a line that is not accepted gets the first refusal that applies
-pub refused-first : (l : List ℕ) (n : ℕ) → Answers l (refused n) → FirstOf l n readingOrder
-refused-first l n (refuses f) = f
+-- a line that is not accepted gets the first refusal that applies, with its place
+pub refused-first : (l : List ℕ) (n : ℕ) → Answers l (refused n) → FirstOf l n readingOrder × Listed n placeless
+refused-first l n (refuses f i) = (f, i)
 
-pub first-refused : (l : List ℕ) (n : ℕ) → FirstOf l n readingOrder → Answers l (refused n)
-first-refused l n f = refuses f
+pub refused-at-first : (l : List ℕ) (n p : ℕ) → Answers l (refused-at n p) → FirstOf l n readingOrder × Placed l n p
+refused-at-first l n p (refuses-at f i) = (f, i)
+
+pub first-refused : (l : List ℕ) (n : ℕ) → FirstOf l n readingOrder → Listed n placeless → Answers l (refused n)
+first-refused l n f i = refuses f i
+
+pub first-refused-at : (l : List ℕ) (n p : ℕ) → FirstOf l n readingOrder → Placed l n p → Answers l (refused-at n p)
+first-refused-at l n p f i = refuses-at f i
 
 pub accepted-none-applies : (l : List ℕ) (m : Record) → Answers l (read m) → (n : ℕ) → Applies l n → ⊥
 accepted-none-applies l m (accepts k r h) n e = accepted-none l m r h n e
@@ -35,21 +42,32 @@ first-listed l n (k ∷ ns) (this a) = here refl
 first-listed l n (k ∷ ns) (next z f) = later (first-listed l n ns f)
 
 pub refused-listed : (l : List ℕ) (n : ℕ) → Answers l (refused n) → Listed n readingOrder
-refused-listed l n (refuses f) = first-listed l n readingOrder f
+refused-listed l n (refuses f i) = first-listed l n readingOrder f
+
+pub refused-at-listed : (l : List ℕ) (n p : ℕ) → Answers l (refused-at n p) → Listed n readingOrder
+refused-at-listed l n p (refuses-at f i) = first-listed l n readingOrder f
+
+-- a place is within the line, which has at most 160 bytes then
+pub refused-at-within : (l : List ℕ) (n p : ℕ) → Answers l (refused-at n p) → (p ≤ length l) × (length l ≤ lineLimit)
+refused-at-within l n p (refuses-at f i) = let h = short-line l n p f i in (placed-within l h n p i, h)
+
+-- an answer that refuses, and its number: with a place or without
+pub data Refusal : Answer → ℕ → Type 0 where
+  plain : {n : ℕ} → Refusal (refused n) n
+  placed : {n p : ℕ} → Refusal (refused-at n p) n
 
 -- a line that is refused is related to no legal record, and one that is related to none is refused
-pub refused-unrelated : (l : List ℕ) (n : ℕ) (m : Record) → Answers l (refused n) → Relates l m → Legal m → ⊥
-refused-unrelated l n m r q k =
-    let e : refused n ≡ read m = answers-unique l (refused n) (read m) r (accepts m q k) in
-    let z : _≡_ {A = ℕ} 0 1 = cc in
-    omega arith
+pub refused-unrelated : (l : List ℕ) (a : Answer) (n : ℕ) (m : Record) → Answers l a → Refusal a n → Relates l m → Legal m → ⊥
+refused-unrelated l a n m (refuses f i) plain q k = accepted-none l m q k n (first-applies l n readingOrder f)
+refused-unrelated l a n m (refuses-at f i) placed q k = accepted-none l m q k n (first-applies l n readingOrder f)
 
-pub unrelated-refused : (l : List ℕ) → ((m : Record) → Relates l m → Legal m → ⊥) → (n : ℕ) × Answers l (refused n)
+pub unrelated-refused : (l : List ℕ) → ((m : Record) → Relates l m → Legal m → ⊥) → (a : Answer) × Answers l a × (n : ℕ) × Refusal a n
 unrelated-refused l h = go (readOf l) (answers l)
   where
-    go : (a : Answer) → Answers l a → (n : ℕ) × Answers l (refused n)
+    go : (a : Answer) → Answers l a → (a : Answer) × Answers l a × (n : ℕ) × Refusal a n
     go (read m) (accepts n r k) = absurd (h m r k)
-    go (refused n) (refuses r) = (n, refuses r)
+    go (refused n) (refuses f i) = (refused n, refuses f i, n, plain)
+    go (refused-at n p) (refuses-at f i) = (refused-at n p, refuses-at f i, n, placed)
 
 -- every legal record has a line
 pub has-line : (m : Record) → Legal m → (l : List ℕ) × Relates l m

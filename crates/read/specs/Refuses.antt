@@ -1,4 +1,4 @@
--- What the reader finds of a line: each refusal stands on what the stages before it found. No one has to believe it: Answering.antt joins it to
+-- What the reader finds of a line, places aside: each refusal stands on what the stages before it found. No one has to believe it: Answering.antt joins it to
 -- `Answers`, which says each refusal of the line alone.
 use Prim.Native.Nat.{ℕ, _≤_, _<_}
 use mathlib.Core.Path.{_≡_}
@@ -8,19 +8,21 @@ use lib.ListN.{length}
 use Rattle.record.specs.Refusals.{numbersInRange, pairApart, Legal}
 use Rattle.record.specs.declared.Instruction.{Instruction}
 use Rattle.record.specs.declared.Record.{Record}
-use Rattle.rules.specs.Grammar.{LineTree, Shaped}
-use Rattle.rules.specs.Reading.{lineLimit, opcodes, Row, Fits, Relates, Answer, read, refused}
+use Rattle.rules.specs.Grammar.{LineTree, namesOf, Shaped}
+use Rattle.rules.specs.Reading.{lineLimit, opcodes, Row, Fits, Relates}
 use Rattle.signs.specs.Lists.{Listed}
+use Rattle.read.specs.declared.Verdict
+use Rattle.read.specs.declared.Verdict.{Verdict}
 
 pub data Refuses (l : List ℕ) : ℕ → Type 0 where
   over-160 : lineLimit < length l → Refuses l 1
   no-shape : length l ≤ lineLimit → ((t : LineTree) → Shaped l t → ⊥) → Refuses l 2
   no-opcode : length l ≤ lineLimit → (t : LineTree) → Shaped l t → (Listed (t .opcode) opcodes → ⊥) → Refuses l 3
-  no-row : length l ≤ lineLimit → (t : LineTree) → Shaped l t → Listed (t .opcode) opcodes → ((i : Instruction) → Row t i → ⊥) → Refuses l 4
-  no-fit : length l ≤ lineLimit → (t : LineTree) → Shaped l t → (i : Instruction) → Row t i → ((m : Record) → Fits t m → ⊥) → Refuses l 5
+  no-row : length l ≤ lineLimit → (t : LineTree) → Shaped l t → Listed (t .opcode) opcodes → ((i : Instruction) → Row (namesOf t) i → ⊥) → Refuses l 4
+  no-fit : length l ≤ lineLimit → (t : LineTree) → Shaped l t → (i : Instruction) → Row (namesOf t) i → ((m : Record) → Fits t m → ⊥) → Refuses l 5
   out-of-file : length l ≤ lineLimit → (t : LineTree) → Shaped l t → (m : Record) → Fits t m → numbersInRange m ≡ false → Refuses l 6
   same-pair : length l ≤ lineLimit → (t : LineTree) → Shaped l t → (m : Record) → Fits t m → numbersInRange m ≡ true → pairApart m ≡ false → Refuses l 7
 
-pub data Decides (l : List ℕ) : Answer → Type 0 where
-  decides-read : (m : Record) → Relates l m → Legal m → Decides l (read m)
-  decides-refused : {n : ℕ} → Refuses l n → Decides l (refused n)
+pub data Decides (l : List ℕ) : Verdict → Type 0 where
+  decides-read : (m : Record) → Relates l m → Legal m → Decides l (Verdict.Accepted m)
+  decides-refused : {n : ℕ} → Refuses l n → Decides l (Verdict.Numbered n)

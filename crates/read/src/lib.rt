@@ -1,4 +1,5 @@
-// Reads one line: its shape, its row of the modifier table, its operands, then numbers and pairs. The first refusal that applies decides.
+// Reads one line: its shape, its row of the modifier table, its operands, then numbers and pairs. The first refusal that applies decides; then
+// its place is looked for.
 use fills::Filled;
 use heads::Found;
 use record::Condition;
@@ -17,28 +18,26 @@ ghost use Rattle.rules.specs.Reading.{Answers};
 ghost use Rattle.fills.specs.Fills.{filledOf};
 ghost use Rattle.heads.specs.declared.Found.the-variants as found;
 ghost use Rattle.read.specs.Paper.{answerOf};
-ghost use Rattle.read.specs.Mirror.{predIs, predIn, guardGood, guardAt, guardIn, recordOf, candidateBy, candidateOf, fitBy, refusalOf, decidedBy};
+ghost use Rattle.read.specs.Mirror.{predIn, guardAt, guardIn, recordOf, candidateBy, candidateOf, fitBy, refusalOf, decidedBy, verdictOf, refusedBy};
+ghost use Rattle.places.specs.Mirror.{guardGood};
 
-// The record, or document 01's number of the refusal.
+// The record, or document 01's number of the refusal and, if it carries one, its place: the bytes of the line before it.
 pub enum Reading {
     Record(Record),
     Refused(u8),
+    RefusedAt(u8, usize),
+}
+
+// The same, places aside.
+enum Verdict {
+    Accepted(Record),
+    Numbered(u8),
 }
 
 // A line has at most so many bytes.
 const LINE_LIMIT: usize = 160;
 
 // ---- the guard is a predicate
-
-fn is_pred(p: Place) -> bool
-    ensures { λ r. ⌜ r ≡ predIs p ⌝ }
-{
-    match p {
-        Place::Word(_) => false,
-        Place::Double(_) => false,
-        Place::Pred(_) => true,
-    }
-}
 
 fn pred_in(p: Place) -> Pred
     ensures { λ r. ⌜ r ≡ predIn p ⌝ }
@@ -47,15 +46,6 @@ fn pred_in(p: Place) -> Pred
         Place::Word(_) => Pred(0),
         Place::Double(_) => Pred(0),
         Place::Pred(q) => q,
-    }
-}
-
-fn guard_good(g: Guarding) -> bool
-    ensures { λ r. ⌜ r ≡ guardGood g ⌝ }
-{
-    match g {
-        Guarding::Unguarded => true,
-        Guarding::Guarded(_, p) => is_pred(p),
     }
 }
 
@@ -98,15 +88,15 @@ fn last_refusal(good: bool, r: Record) -> u8
     refusals::reading(false, false, false, false, !fit, !inside, !apart)
 }
 
-fn from_filled(g: Guarding, i: Instruction) -> Reading
-    ensures { λ a. ⌜ answerOf a ≡ decidedBy false true (fitBy (guardGood g) (recordOf (guardIn g) i)) ⌝ }
+fn from_filled(g: Guarding, i: Instruction) -> Verdict
+    ensures { λ a. ⌜ a ≡ decidedBy false true (fitBy (guardGood g) (recordOf (guardIn g) i)) ⌝ }
 {
     let r = record_of(guard_in(g), i);
-    let n = last_refusal(guard_good(g), r);
+    let n = last_refusal(places::guard_good(g), r);
     if n != 0 {
-        return Reading::Refused(n);
+        return Verdict::Numbered(n);
     }
-    Reading::Record(r)
+    Verdict::Accepted(r)
 }
 
 // No guard counts in the table of modifiers.
@@ -116,20 +106,20 @@ fn row_fits(i: Instruction) -> bool
     fits::modifiers_fit(record_of(Guard::Always, i))
 }
 
-fn from_row(g: Guarding, i: Instruction, operands: Operands) -> Reading
-    ensures { λ a. ⌜ answerOf a ≡ decidedBy false true (candidateBy g (found.Row i) (filledOf i operands)) ⌝ }
+fn from_row(g: Guarding, i: Instruction, operands: Operands) -> Verdict
+    ensures { λ a. ⌜ a ≡ decidedBy false true (candidateBy g (found.Row i) (filledOf i operands)) ⌝ }
 {
     if !row_fits(i) {
-        return Reading::Refused(refusals::reading(false, false, false, true, true, true, true));
+        return Verdict::Numbered(refusals::reading(false, false, false, true, true, true, true));
     }
     let Filled::Full(j) = fills::fill_in(i, operands) else {
-        return Reading::Refused(refusals::reading(false, false, false, false, true, true, true));
+        return Verdict::Numbered(refusals::reading(false, false, false, false, true, true, true));
     };
     from_filled(g, j)
 }
 
-fn from_parts(x: Parts) -> Reading
-    ensures { λ a. ⌜ answerOf a ≡ decidedBy false true (candidateOf x) ⌝ }
+fn from_parts(x: Parts) -> Verdict
+    ensures { λ a. ⌜ a ≡ decidedBy false true (candidateOf x) ⌝ }
 {
     let g = x.guard;
     let head = x.head;
@@ -139,27 +129,56 @@ fn from_parts(x: Parts) -> Reading
             return from_row(g, i, operands);
         }
         Found::NoOpcode => {
-            return Reading::Refused(refusals::reading(false, false, true, true, true, true, true));
+            return Verdict::Numbered(refusals::reading(false, false, true, true, true, true, true));
         }
         Found::Wrong(_) => {
-            return Reading::Refused(refusals::reading(false, false, false, true, true, true, true));
+            return Verdict::Numbered(refusals::reading(
+                false,
+                false,
+                false,
+                true,
+                true,
+                true,
+                true,
+            ));
         }
     }
 }
 
+fn judge(line: &[u8]) -> Verdict
+    ensures { λ a. ⌜ a ≡ verdictOf (now (line .entry)) ⌝ }
+{
+    if LINE_LIMIT < line.len() {
+        // Before a look at its bytes, so that no line takes longer than one of the limit.
+        return Verdict::Numbered(refusals::reading(true, true, true, true, true, true, true));
+    }
+    let scanned = shape::shape(line);
+    if !scanned.good {
+        return Verdict::Numbered(refusals::reading(false, true, true, true, true, true, true));
+    }
+    let parts = scanned.parts;
+    from_parts(parts)
+}
+
 // ---- the entry point
+
+// A line that is too long has no place.
+const NO_PLACE: u8 = 1;
+
+fn refused(n: u8, line: &[u8]) -> Reading
+    ensures { λ a. ⌜ answerOf a ≡ refusedBy n (now (line .entry)) ⌝ }
+{
+    if n == NO_PLACE {
+        return Reading::Refused(n);
+    }
+    Reading::RefusedAt(n, places::place(n, line))
+}
 
 pub fn read(line: &[u8]) -> Reading
     ensures { λ a. ⌜ Answers (now (line .entry)) (answerOf a) ⌝ }
 {
-    if LINE_LIMIT < line.len() {
-        // Before a look at its bytes, so that no line takes longer than one of the limit.
-        return Reading::Refused(refusals::reading(true, true, true, true, true, true, true));
+    match judge(line) {
+        Verdict::Accepted(r) => Reading::Record(r),
+        Verdict::Numbered(n) => refused(n, line),
     }
-    let scanned = shape::shape(line);
-    if !scanned.good {
-        return Reading::Refused(refusals::reading(false, true, true, true, true, true, true));
-    }
-    let parts = scanned.parts;
-    from_parts(parts)
 }

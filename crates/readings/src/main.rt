@@ -80,11 +80,18 @@ fn put_record(r: Record, out: &mut [u8]) -> usize {
     }
 }
 
-// Or the number of the refusal.
+// The number of the refusal, a space and the place.
+fn put_placed(n: u8, place: usize, out: &mut [u8]) -> usize {
+    let at = text::put_decimal(out, 0, n as u64);
+    let next = text::push(out, at, b' ');
+    text::put_decimal(out, next, place as u64)
+}
+
 fn put_answer(line: &[u8], out: &mut [u8]) -> usize {
     match read::read(line) {
         Reading::Record(r) => put_record(r, out),
-        Reading::Refused(k) => text::put_decimal(out, 0, k as u64),
+        Reading::Refused(n) => text::put_decimal(out, 0, n as u64),
+        Reading::RefusedAt(n, place) => put_placed(n, place, out),
     }
 }
 

@@ -16,12 +16,12 @@ use Rattle.record.specs.Registers.{Files}
 use Rattle.rules.specs.Executing.{run, done, skipped}
 use Rattle.rules.specs.Executing as executing
 use Rattle.laws.specs.LineLengths.{longestLine, standard-length}
-use Rattle.rules.specs.Reading.{readingOrder, Answer, Answers, accepts, read, refused}
+use Rattle.rules.specs.Reading.{readingOrder, Answer, Answers, accepts, read, refused, refused-at}
 use Rattle.signs.specs.Lists.{Listed}
 use Rattle.base.specs.Values.{every}
 use Rattle.laws.specs.PlaceLaws.{of-every}
 use Rattle.laws.specs.OutcomeLaws.{execute-refused}
-use Rattle.read.specs.Promises.{refused-listed}
+use Rattle.read.specs.Promises.{refused-listed, refused-at-listed, refused-at-within}
 use Rattle.text.specs.Buffer.{buffer, Puts, _then_, whole-front}
 use Rattle.text.specs.DigitLaws.{decimal-short}
 use Rattle.report.specs.Listing.{refusedText, executedText, answerText, printedLine, Turn, listingLimit, tooLongText}
@@ -76,6 +76,9 @@ executed-short (executing.refused n) r f h e = let k = low-number (8 ∷ 10 ∷ 
 answer-short : {l : List ℕ} (a : Answer) (f : Files) → Answers l a → length (answerText a f) ≤ 8 + longestLine
 answer-short (read r) f q = executed-short (run r f .answer) r f (legal-of q) refl
 answer-short {l} (refused n) f q = let k = low-number readingOrder refl (refused-listed l n q) in omega arith
+answer-short {l} (refused-at n p) f q =
+    let k = low-number readingOrder refl (refused-at-listed l n p q) in
+    simp length-append (omega (arith, decimal-short p (omega (arith, refused-at-within l n p q))))
 
 pub turn-short : {n : ℕ} {l t : List ℕ} {f g : Files} → n < 2 ^ 64 → Turn n l f t g → length t ≤ lineRoom
 unfolding printedLine

@@ -11,7 +11,7 @@ use Rattle.record.specs.Registers.{Files}
 use Rattle.rules.specs.Executing.{done, skipped, run}
 use Rattle.rules.specs.Executing as executing
 use Rattle.rules.specs.StandardLine.{standard}
-use Rattle.rules.specs.Reading.{Answer, read, refused, Answers}
+use Rattle.rules.specs.Reading.{Answer, read, refused, refused-at, Answers}
 use Rattle.signs.specs.Digits.{decimal}
 use Rattle.signs.specs.Bytes.{lineFeed}
 use Rattle.changes.specs.Changes.{startFiles, registersText}
@@ -44,6 +44,10 @@ linesOf s = linesWith [] s
 abbrev pub refusedText : ℕ → List ℕ
 refusedText n = bytes "refused " ++ decimal n
 
+-- T-05: the listing program prints the place after the number
+abbrev pub placedText : ℕ → ℕ → List ℕ
+placedText n p = refusedText n ++ bytes " " ++ decimal p
+
 abbrev pub executedText : executing.Answer → Record → List ℕ
 executedText done r = bytes "done " ++ standard r
 executedText skipped r = bytes "skipped " ++ standard r
@@ -53,10 +57,12 @@ executedText (executing.refused n) r = refusedText n
 abbrev pub answerText : Answer → Files → List ℕ
 answerText (read r) f = executedText (run r f .answer) r
 answerText (refused n) f = refusedText n
+answerText (refused-at n p) f = placedText n p
 
 abbrev pub filesAfter : Answer → Files → Files
 filesAfter (read r) f = run r f .files
 filesAfter (refused n) f = f
+filesAfter (refused-at n p) f = f
 
 -- the line's number comes first, from 1 on
 unfoldable pub printedLine : ℕ → Answer → Files → List ℕ

@@ -14,7 +14,7 @@ ghost use Rattle.rules.specs.Executing.{done, skipped, run};
 ghost use Rattle.rules.specs.StandardLine.{standard};
 ghost use Rattle.execute.specs.Answers as executed;
 ghost use Rattle.text.specs.Buffer.{buffer, Puts};
-ghost use Rattle.report.specs.Listing.{refusedText, executedText, listingLimit};
+ghost use Rattle.report.specs.Listing.{refusedText, placedText, executedText, listingLimit};
 ghost use Rattle.report.specs.Chunks.{lineLength, behind, lineRoom, PutsAnswer, PutsTurn, Prints};
 
 // At most so many bytes of a listing.
@@ -53,6 +53,15 @@ fn put_refused(out: &mut [u8], at: usize, n: u8) -> usize
 {
     let next = text::put(out, at, b"refused ");
     text::put_decimal(out, next, n as u64)
+}
+
+// The place goes behind the number.
+fn put_placed(out: &mut [u8], at: usize, n: u8, place: usize) -> usize
+    ensures { λ m. ⌜ Puts (buffer (now (out .entry)) at) (placedText n place) (buffer (now (out .exit)) m) ⌝ }
+{
+    let at1 = put_refused(out, at, n);
+    let at2 = text::push(out, at1, b' ');
+    text::put_decimal(out, at2, place as u64)
 }
 
 fn put_done(out: &mut [u8], at: usize, r: Record) -> usize
@@ -113,6 +122,7 @@ fn put_answer(
     match read::read(line) {
         Reading::Record(r) => put_run(out, at, r, words, doubles, preds),
         Reading::Refused(n) => put_refused(out, at, n),
+        Reading::RefusedAt(n, place) => put_placed(out, at, n, place),
     }
 }
 

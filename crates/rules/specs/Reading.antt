@@ -1,5 +1,5 @@
 -- Document 01, which record a line spells, and refusals 1 to 7: said of the line's tree and of the records that it spells. Apart from any reader.
-use Prim.Native.Nat.{ℕ, _≤_, _<_}
+use Prim.Native.Nat.{ℕ, _+_, _≤_, _<_}
 use mathlib.Core.Path.{_≡_}
 use mathlib.Core.Bool.{Bool, true}
 use mathlib.Core.List.{List, [], _∷_, _++_}
@@ -7,7 +7,7 @@ use lib.ListN.{length}
 use Rattle.signs.specs.Text.{bytes}
 use Rattle.signs.specs.Lists.{Listed}
 use Rattle.record.specs.Modifiers.{instructionModifiersFit, modifiersFit}
-use Rattle.record.specs.Operands.{lanesFit, operandsFit}
+use Rattle.record.specs.Operands.{lanesFit, instructionOperandsFit, operandsFit}
 use Rattle.record.specs.Registers.{Place, pred, p, numberOf, fileSize}
 use Rattle.record.specs.Refusals.{Legal}
 use Rattle.record.specs.declared.Guard.{Guard}
@@ -15,10 +15,11 @@ use Rattle.record.specs.declared.Guard.the-variants.{Always, When}
 use Rattle.record.specs.declared.Instruction.{Instruction}
 use Rattle.record.specs.declared.Instruction.the-variants.{Arithmetic, Vset, VsetLanes, ArithmeticLanes, Set, Setp, Selp, Slct}
 use Rattle.record.specs.declared.Record.{Record}
-use Rattle.rules.specs.Shape.{Name, Spot, at, nothing, OperandTree, inverted, pair, bare, part}
+use Rattle.rules.specs.Shape.{Name, registerText, at, OperandTree, pair}
 use Rattle.rules.specs.Names.{headNames}
 use Rattle.rules.specs.Spelling.{operandTrees, writtenTrees}
 use Rattle.rules.specs.Grammar.{LineTree, GuardTree, unguarded, guarded, namesOf, operandsOf, Shaped}
+use Rattle.rules.specs.BytePlaces.{FirstWrong, ShapedLine, guardStart, headStart, nameStart, operandsStart, operandStart, registersOf, FirstOutside}
 
 -- ==== which record a line spells
 
@@ -82,9 +83,9 @@ opcodes =
     ∷ bytes "set" ∷ bytes "setp" ∷ bytes "selp" ∷ bytes "slct"
     ∷ []
 
--- the head is a row of the table: an instruction with fitting modifiers has these names
-pub record Row (t : LineTree) (i : Instruction) : Type 0 where
-  pub names : namesOf t ≡ headNames i
+-- names are a row of the table: an instruction with fitting modifiers has these
+pub record Row (ns : List Name) (i : Instruction) : Type 0 where
+  pub names : ns ≡ headNames i
   pub fit : instructionModifiersFit i ≡ true
 
 -- the line spells the record, whose modifiers and operands fit; register numbers and pairs aside
@@ -92,28 +93,6 @@ pub record Fits (t : LineTree) (m : Record) : Type 0 where
   pub spells : Spells t m
   pub modifiers : modifiersFit m ≡ true
   pub operands : operandsFit m ≡ true
-
--- the registers of a line, from left to right: the guard's, then those of the operands
-abbrev pub guardRegisters : GuardTree → List Place
-guardRegisters unguarded = []
-guardRegisters (guarded negated q blanks) = q ∷ []
-
-abbrev pub spotRegisters : Spot → List Place
-spotRegisters (at q) = q ∷ []
-spotRegisters nothing = []
-
-abbrev pub operandRegisters : OperandTree → List Place
-operandRegisters (inverted q) = q ∷ []
-operandRegisters (pair u v) = spotRegisters u ++ spotRegisters v
-operandRegisters (bare q) = q ∷ []
-operandRegisters (part q n) = q ∷ []
-
-abbrev pub operandsRegisters : List OperandTree → List Place
-operandsRegisters [] = []
-operandsRegisters (o ∷ os) = operandRegisters o ++ operandsRegisters os
-
-abbrev pub registersOf : LineTree → List Place
-registersOf t = guardRegisters (t .guard) ++ operandsRegisters (operandsOf t)
 
 -- the rows of the table, each said of the line alone. 5 is asked of a head that is in the table, since the row says which operands are right
 pub data Applies (l : List ℕ) : ℕ → Type 0 where
@@ -124,11 +103,11 @@ pub data Applies (l : List ℕ) : ℕ → Type 0 where
   -- first name of the head is no opcode here
   unknown : (t : LineTree) → Shaped l t → (Listed (t .opcode) opcodes → ⊥) → Applies l 3
   -- modifiers not in the table
-  rowless : (t : LineTree) → Shaped l t → ((i : Instruction) → Row t i → ⊥) → Applies l 4
+  rowless : (t : LineTree) → Shaped l t → ((i : Instruction) → Row (namesOf t) i → ⊥) → Applies l 4
   -- guard or operands wrong in count, kind, `!`, pair or selector
-  unfit : (t : LineTree) → Shaped l t → (i : Instruction) → Row t i → ((m : Record) → Fits t m → ⊥) → Applies l 5
+  unfit : (t : LineTree) → Shaped l t → (i : Instruction) → Row (namesOf t) i → ((m : Record) → Fits t m → ⊥) → Applies l 5
   -- a register number at or over its file's size
-  outside : (t : LineTree) → Shaped l t → (q : Place) → Listed q (registersOf t) → fileSize q ≤ numberOf q → Applies l 6
+  outside : (t : LineTree) → Shaped l t → (n : ℕ) (q : Place) → Listed (n, q) (registersOf t) → fileSize q ≤ numberOf q → Applies l 6
   -- both places of a pair are the same predicate
   equal : (t : LineTree) → Shaped l t → (n : ℕ) → Listed (pair (at (pred n)) (at (pred n))) (operandsOf t) → Applies l 7
 
@@ -141,14 +120,52 @@ pub data FirstOf (l : List ℕ) (n : ℕ) : List ℕ → Type 0 where
   this : {ns : List ℕ} → Applies l n → FirstOf l n (n ∷ ns)
   next : {k : ℕ} {ns : List ℕ} → (Applies l k → ⊥) → FirstOf l n ns → FirstOf l n (k ∷ ns)
 
+-- ==== where the line went wrong
+
+-- a legal list of modifiers, its opcode before it
+pub record LegalNames (ns : List Name) : Type 0 where
+  pub instruction : Instruction
+  pub row : Row ns instruction
+
+-- a legal list of operands under a head: an instruction of that row has them, and its operands fit; register numbers and equal pairs aside
+pub record LegalOperands (head : List Name) (os : List OperandTree) : Type 0 where
+  pub instruction : Instruction
+  pub row : Row head instruction
+  pub spells : OperandsSpell os instruction
+  pub fit : instructionOperandsFit instruction ≡ true
+
+-- T-05: refusals 2 to 7 shall carry a byte place
+pub data Placed (l : List ℕ) : ℕ → ℕ → Type 0 where
+  -- For 2: the first byte with which the line begins as no line of the right shape, however long, does, or the line's length if it is only unfinished
+  at-byte : {p : ℕ} → FirstWrong ShapedLine l p → Placed l 2 p
+  -- For 3 the opcode
+  at-opcode : (t : LineTree) → Shaped l t → Placed l 3 (headStart t)
+  -- For 4 [..]: the start of the first modifier [..] that no legal list has after the ones before it [..], or the end of the list if it is only too short
+  at-modifier : (t : LineTree) → Shaped l t → (k : ℕ) → FirstWrong LegalNames (namesOf t) k → Placed l 4 (headStart t + nameStart (namesOf t) k)
+  -- For [..] 5: the start [..] of the guard [..] that no legal list has
+  at-guard : (t : LineTree) → Shaped l t → ((g : Guard) → GuardSpells (t .guard) g → ⊥) → Placed l 5 (guardStart t)
+  -- or [the first] operand, that no legal list has after the ones before it (register numbers and equal pairs aside), or the end of the list if it is only too short
+  at-operand : (t : LineTree) → Shaped l t → (g : Guard) → GuardSpells (t .guard) g → (k : ℕ) → FirstWrong (LegalOperands (namesOf t)) (operandsOf t) k
+      → Placed l 5 (operandsStart t + operandStart (t .first) (t .others) k)
+  -- for 6 the first such register
+  at-register : (t : LineTree) → Shaped l t → {p : ℕ} → FirstOutside (registersOf t) p → Placed l 6 p
+  -- for 7 the second place; only d of setp may be a pair
+  at-second : (t : LineTree) → Shaped l t → (q : Place) → t .first ≡ pair (at q) (at q) → Placed l 7 (operandsStart t + length (registerText q ++ bytes "|"))
+
+-- the others carry none
+abbrev pub placeless : List ℕ
+placeless = 1 ∷ []
+
 -- ==== the answer of reading
 
--- A refusal returns its number only, no record
+-- A refusal returns its number only, no record; T-05: and its place, if it has one
 pub data Answer : Type 0 where
   read : Record → Answer
   refused : ℕ → Answer
+  refused-at : ℕ → ℕ → Answer
 
--- accepted exactly when the grammar relates the line to a legal record; else the first refusal that applies
+-- accepted exactly when the grammar relates the line to a legal record; else the first refusal that applies, with its place
 pub data Answers (l : List ℕ) : Answer → Type 0 where
   accepts : (m : Record) → Relates l m → Legal m → Answers l (read m)
-  refuses : {n : ℕ} → FirstOf l n readingOrder → Answers l (refused n)
+  refuses : {n : ℕ} → FirstOf l n readingOrder → Listed n placeless → Answers l (refused n)
+  refuses-at : {n p : ℕ} → FirstOf l n readingOrder → Placed l n p → Answers l (refused-at n p)

@@ -17,10 +17,10 @@ use Rattle.scan.specs.declared.Number.the-variants.{Got, Bad}
 
 -- ---- digits
 
-digit-is : (n : ℕ) → isDigit (digit n) ≡ true
+pub digit-is : (n : ℕ) → isDigit (digit n) ≡ true
 digit-is n = simp (le-leb 48 (digit n) (omega arith), le-leb (digit n) 57 (omega arith))
 
-digit-range : (b : ℕ) → isDigit b ≡ true → (48 ≤ b) × (b ≤ 57)
+pub digit-range : (b : ℕ) → isDigit b ≡ true → (48 ≤ b) × (b ≤ 57)
 digit-range b e = go (leb 48 b) refl (leb b 57) refl e
   where
     go : (t : Bool) → leb 48 b ≡ t → (u : Bool) → leb b 57 ≡ u → t && u ≡ true → (48 ≤ b) × (b ≤ 57)
@@ -106,16 +106,16 @@ pub record NumberAt (s : List ℕ) (v n : ℕ) : Type 0 where
 never : {A : Type 0} (p v n : ℕ) → Bad p ≡ Got v n → A
 never p v n e = let z : _≡_ {A = ℕ} 0 1 = cc in absurd (omega arith)
 
-one-text : (v : ℕ) → v < 10 → numberText v ≡ (v + 48) ∷ []
+pub one-text : (v : ℕ) → v < 10 → numberText v ≡ (v + 48) ∷ []
 one-text v h = simp (lt-ltb v 10 h) (ap (λ (x : ℕ). x ∷ []) (omega arith))
 
-two-text : (a b : ℕ) → 0 < a → a < 10 → b < 10 → numberText (10 * a + b) ≡ (a + 48) ∷ (b + 48) ∷ []
+pub two-text : (a b : ℕ) → 0 < a → a < 10 → b < 10 → numberText (10 * a + b) ≡ (a + 48) ∷ (b + 48) ∷ []
 two-text a b h i j =
     let x : digit ((10 * a + b) / 10) ≡ a + 48 = omega arith in
     let y : digit (10 * a + b) ≡ b + 48 = omega arith in
     simp (le-ltb (10 * a + b) 10 (omega arith), lt-ltb (10 * a + b) 100 (omega arith)) (ap (λ (c : ℕ). c ∷ digit (10 * a + b) ∷ []) x ∙ ap (λ (c : ℕ). (a + 48) ∷ c ∷ []) y)
 
-three-text : (a b c : ℕ) → 0 < a → a < 10 → b < 10 → c < 10 → numberText (100 * a + 10 * b + c) ≡ (a + 48) ∷ (b + 48) ∷ (c + 48) ∷ []
+pub three-text : (a b c : ℕ) → 0 < a → a < 10 → b < 10 → c < 10 → numberText (100 * a + 10 * b + c) ≡ (a + 48) ∷ (b + 48) ∷ (c + 48) ∷ []
 three-text a b c h i j k =
     let v : ℕ = 100 * a + 10 * b + c in
     let x : digit ((100 * a + 10 * b + c) / 100) ≡ a + 48 = omega arith in

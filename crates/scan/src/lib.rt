@@ -55,19 +55,19 @@ pub enum Class {
     Name,
 }
 
-fn is_blank(b: u8) -> bool
+pub fn is_blank(b: u8) -> bool
     ensures { λ r. ⌜ r ≡ isBlank b ⌝ }
 {
     (b == b' ') | (b == b'\t')
 }
 
-fn is_digit(b: u8) -> bool
+pub fn is_digit(b: u8) -> bool
     ensures { λ r. ⌜ r ≡ isDigit b ⌝ }
 {
     (b'0' <= b) & (b <= b'9')
 }
 
-fn is_name_byte(b: u8) -> bool
+pub fn is_name_byte(b: u8) -> bool
     ensures { λ r. ⌜ r ≡ isNameByte b ⌝ }
 {
     (b'a' <= b) & (b <= b'z') | is_digit(b)

@@ -24,12 +24,12 @@ use Rattle.shape.specs.declared.Listed.{Listed}
 
 -- ---- what divides operands
 
-comma-found : (b a r : List ℕ) → All isBlank b → All isBlank a → Stops isBlank r → length b + 1 + length a ≤ most → dividerOf (b ++ (44 ∷ (a ++ r))) ≡ Comma (length b + 1 + length a)
+pub comma-found : (b a r : List ℕ) → All isBlank b → All isBlank a → Stops isBlank r → length b + 1 + length a ≤ most → dividerOf (b ++ (44 ∷ (a ++ r))) ≡ Comma (length b + 1 + length a)
 unfolding dividerOf dividerBy
 comma-found b a r x y z m =
     rw (run-all isBlank (44 ∷ (a ++ r)) x refl, drop-append-seam b (44 ∷ (a ++ r)), run-all isBlank r y z, sum-is (length b) 1 (omega arith), sum-is (length b + 1) (length a) m)
 
-semicolon-found : (b r : List ℕ) → All isBlank b → length b + 1 ≤ most → dividerOf (b ++ (59 ∷ r)) ≡ Semicolon (length b + 1)
+pub semicolon-found : (b r : List ℕ) → All isBlank b → length b + 1 ≤ most → dividerOf (b ++ (59 ∷ r)) ≡ Semicolon (length b + 1)
 unfolding dividerOf dividerBy
 semicolon-found b r x m = rw (run-all isBlank (59 ∷ r) x refl, drop-append-seam b (59 ∷ r), sum-is (length b) 1 m)
 

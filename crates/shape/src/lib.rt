@@ -23,13 +23,13 @@ ghost use Rattle.shape.specs.Guard.{guardBy, guardOf};
 ghost use Rattle.shape.specs.Line.{noParts, stoppedAt, fromEnd, fromOperands, fromGap, fromHead, guardedBy, shapeOf};
 
 // An operand and how many bytes it took, or the place of the first byte that is wrong.
-enum OperandRead {
+pub enum OperandRead {
     Got(Tree, usize),
     Bad(usize),
 }
 
 // `!` and a register; or two places joined by `|`; or a register, optionally with `.` and a name.
-fn read_operand(s: &[u8]) -> OperandRead
+pub fn read_operand(s: &[u8]) -> OperandRead
     ensures { λ r. ⌜ r ≡ operandScanned (now (s .entry)) ⌝ }
 {
     let b = byte(s, 0);
@@ -240,13 +240,13 @@ fn no_operands(k: usize) -> Operands
 }
 
 // What divides an operand from the next, or ends the list, with the blanks around it and its length; or the place of a wrong byte.
-enum Divider {
+pub enum Divider {
     Comma(usize),
     Semicolon(usize),
     Bad(usize),
 }
 
-fn read_divider(w: &[u8]) -> Divider
+pub fn read_divider(w: &[u8]) -> Divider
     ensures { λ r. ⌜ r ≡ dividerOf (now (w .entry)) ⌝ }
 {
     let n = run_len(Class::Blank, w);
@@ -371,13 +371,13 @@ fn divided_by(place: usize, n: usize, d: Divider) -> Turn
 }
 
 // A guard with the blanks behind it, and how many bytes that took; or the place of the first byte that is wrong.
-enum GuardRead {
+pub enum GuardRead {
     Got(Guarding, usize),
     Bad(usize),
 }
 
 // Optionally `@`, optional `!`, a register, and at least one blank.
-fn read_guard(w: &[u8]) -> GuardRead
+pub fn read_guard(w: &[u8]) -> GuardRead
     ensures { λ r. ⌜ r ≡ guardOf (now (w .entry)) ⌝ }
 {
     if byte(w, 0) != b'@' {

@@ -1,4 +1,5 @@
-use Rattle.read.specs.Mirror.{guardGood, guardIn, recordOf}
+use Rattle.places.specs.Mirror.{guardGood}
+use Rattle.read.specs.Mirror.{guardIn, recordOf}
 use Rattle.read.specs.Laws.{ends-refused, ends-read}
 use borrow.Author.Needs.{needs}
 use Rattle.read.proofs.from_filled.Statement.{statement}

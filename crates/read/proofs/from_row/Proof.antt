@@ -1,4 +1,5 @@
-use Rattle.read.specs.Mirror.{guardGood, guardIn, recordOf, noInstruction}
+use Rattle.places.specs.Mirror.{guardGood}
+use Rattle.read.specs.Mirror.{guardIn, recordOf, noInstruction}
 use Rattle.read.specs.Laws.{ends-full, ends-wrong}
 use Rattle.base.specs.Tests.{failed, passed}
 use borrow.Author.Needs.{needs}

@@ -1,13 +1,10 @@
-use mathlib.Core.Path.{_≡_}
-use mathlib.Core.Bool.{true, false}
+use mathlib.Core.Path.{_≡_, sym, subst, _∙_}
 use contract.Lifetimes.{Lfts}
 use borrow.Fn.Kinds.{Dens, endedOf}
-use borrow.Author.Tests.{not-true, not-false}
 use denote.Triple.Clauses.{AtExit}
-use denote.Ref.{now}
-use Rattle.shape.specs.Line.{shapeOf}
+use Rattle.rules.specs.Reading.{Answers}
 use Rattle.read.specs.Paper.{answers-one}
-use Rattle.read.specs.Answering.{answers-unique, ends-long, ends-unshaped, ends-shaped}
+use Rattle.read.specs.Answering.{answers-by, answers-unique}
 use Rattle.read.specs.declared.Reading.{Reading}
 use Rattle.read.proofs.read.Kinds as kinds
 use borrow.Author.Needs.{needs}
@@ -15,44 +12,27 @@ use Rattle.read.proofs.read.Statement.{statement}
 use Rattle.read.proofs.read.Tie as tie
 use Rattle.read.proofs.read.Reads as reads
 
-reading-requires : tie.Need-reading-requires
-reading-requires c κs = search needs
+judge-requires : tie.Need-judge-requires
+judge-requires c κs = search needs
+
+enum-known-r : tie.Need-enum-known-r
+enum-known-r c = search needs
+
+enum-known-n : tie.Need-enum-known-n
+enum-known-n c = search needs
+
+refused-requires : tie.Need-refused-requires
+refused-requires c κs = search needs
 
 returns : tie.Need-returns
-returns c = rw (c .reading .ensures) (ends-long _ (c .before .if1 .taken))
-
-shape-requires : tie.Need-shape-requires
-shape-requires c κs = search needs
-
-reading-requires-2 : tie.Need-reading-requires-2
-reading-requires-2 c κs = search needs
+returns c = answers-by _ _ (sym (c .before .r .given .1) ∙ c .before .before .before .judge .ensures)
 
 returns-2 : tie.Need-returns-2
 returns-2 c =
-    let line = now (c .before .before .before .before .before .before .args .line) in
-    let bare : shapeOf line .good ≡ false = rw (← c .before .before .before .shape .ensures) (not-true _ (c .before .if2 .taken)) in
-    rw (c .reading2 .ensures) (ends-unshaped line (c .before .before .before .before .if1 .left) bare)
-
-from-parts-requires : tie.Need-from-parts-requires
-from-parts-requires c κs = search needs
-
-returns-3 : tie.Need-returns-3
-returns-3 c =
-    let line = now (c .before .before .before .before .before .before .before .args .line) in
-    let shaped : shapeOf line .good ≡ true = rw (← c .before .before .before .before .shape .ensures) (not-false _ (c .before .before .if2 .left)) in
-    ends-shaped line _ (c .before .before .before .before .before .if1 .left) shaped (simp (c .from-parts .ensures, c .before .before .before .before .shape .ensures))
+    subst (Answers _) (sym (c .refused .ensures)) (answers-by _ _ (sym (c .before .before .n .given .1) ∙ c .before .before .before .before .judge .ensures))
 
 pub read-spec : {M : Type 1} → statement M
-read-spec =
-    tie.close
-    (tie.spec
-    reading-requires
-    returns
-    shape-requires
-    reading-requires-2
-    returns-2
-    from-parts-requires
-    returns-3)
+read-spec = tie.close (tie.spec judge-requires enum-known-r enum-known-n refused-requires returns returns-2)
 
 -- no two outcomes satisfy the contract as it stands in src/lib.rt
 pub read-one-outcome :

@@ -1,6 +1,6 @@
 use Rattle.report.specs.ChunkLaws.{legal-of}
 use mathlib.Core.Path.{refl}
-use Rattle.rules.specs.Reading.{read, refused}
+use Rattle.rules.specs.Reading.{read, refused, refused-at}
 use borrow.Author.Needs.{needs}
 use Rattle.report.proofs.put_answer.Statement.{statement}
 use Rattle.report.proofs.put_answer.Tie as tie
@@ -19,6 +19,12 @@ enum-known-n c = search needs
 
 put-refused-requires : tie.Need-put-refused-requires
 put-refused-requires c κs = search needs
+
+enum-known-n-2 : tie.Need-enum-known-n-2
+enum-known-n-2 c = search needs
+
+put-placed-requires : tie.Need-put-placed-requires
+put-placed-requires c κs = search needs
 
 same-length : tie.Need-same-length
 same-length c = search needs
@@ -53,6 +59,19 @@ returns-2 c =
       puts = c .before .before .put-refused .ensures;
     }
 
+same-length-6 : tie.Need-same-length-6
+same-length-6 c = search needs
+
+returns-3 : tie.Need-returns-3
+returns-3 c =
+    let n = c .before .before .before .before .before .n2 .given in
+    record {
+      answer = refused-at (n .0 .0) (n .0 .1 .0);
+      answers = rw (n .1) at (c .before .before .before .before .before .before .before .read .ensures);
+      files = refl;
+      puts = c .before .before .put-placed .ensures;
+    }
+
 pub put-answer-spec : {M : Type 1} → statement M
 put-answer-spec =
     tie.close
@@ -62,10 +81,14 @@ put-answer-spec =
     put-run-requires
     enum-known-n
     put-refused-requires
+    enum-known-n-2
+    put-placed-requires
     same-length
     same-length-2
     same-length-3
     same-length-4
     returns
     same-length-5
-    returns-2)
+    returns-2
+    same-length-6
+    returns-3)

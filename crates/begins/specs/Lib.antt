@@ -1,0 +1,5 @@
+pub mod FirstWrongLaws
+pub mod Machines
+pub mod Searches
+pub mod Endings
+pub mod Standing

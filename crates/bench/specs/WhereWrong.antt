@@ -1,0 +1,140 @@
+-- Change request T-05, row by row, for someone who has a refused line and its place in hand: what stands there, and what is wrong with it. Laws of
+-- `Answers`, which `read` promises; that there is one place, and one only, Demands.antt says. Assumes nothing.
+use Prim.Native.Nat.{ℕ, suc, _+_, _≤_, _<_}
+use native.Mathlib.Omega.{arith}
+use mathlib.Core.Path.{_≡_, refl, ap, subst, _∙_}
+use mathlib.Core.Bool.{Bool}
+use mathlib.Core.List.{List, [], _++_}
+use lib.ListN.{length, take, getD}
+use Rattle.signs.specs.Text.{bytes}
+use Rattle.signs.specs.Lists.{Listed}
+use Rattle.record.specs.Registers.{Place, pred, numberOf, fileSize}
+use Rattle.record.specs.declared.Guard.{Guard}
+use Rattle.record.specs.declared.Guard.the-variants.{Always, When}
+use Rattle.rules.specs.Shape.{headText, registerText, operandText, guardText}
+use Rattle.rules.specs.Grammar.{LineTree, GuardTree, unguarded, guarded, dividedText, namesOf, operandsOf, Shaped}
+use Rattle.rules.specs.BytePlaces.{Begins, ShapedLine, guardStart, headStart, nameStart, operandsStart, operandStart}
+use Rattle.rules.specs.Reading.{GuardSpells, opcodes, readingOrder, Applies, unknown, LegalNames, LegalOperands, at-byte, at-opcode, at-modifier, at-guard, at-operand, at-register, at-second, Answers, refuses-at, refused-at}
+use Rattle.begins.specs.FirstWrongLaws.{before-begins, behind-begins-none}
+use Rattle.begins.specs.Standing.{Stands, names-end, operands-end, guard-at, name-at, operand-at, outside-at, second-at}
+use Rattle.read.specs.Answering.{first-applies, placed-one, short-line}
+
+-- For 2: the first byte with which the line begins as no line of the right shape, however long, does, or the line's length if it is only
+-- unfinished: the first k bytes begin one exactly up to k = p
+pub before-2 : (l : List ℕ) (p : ℕ) → Answers l (refused-at 2 p) → (k : ℕ) → k ≤ p → Begins ShapedLine (take k l)
+before-2 l p (refuses-at f (at-byte x)) k h = before-begins ShapedLine l p k x h
+
+pub behind-2 : (l : List ℕ) (p : ℕ) → Answers l (refused-at 2 p) → (k : ℕ) → p < k → k ≤ length l → Begins ShapedLine (take k l) → ⊥
+behind-2 l p (refuses-at f (at-byte x)) k h i = behind-begins-none ShapedLine l p k x h i
+
+-- For 3 the opcode
+pub record WrongOpcode (l : List ℕ) (p : ℕ) : Type 0 where
+  pub tree : LineTree
+  pub shaped : Shaped l tree
+  pub unlisted : Listed (tree .opcode) opcodes → ⊥
+  pub stands : Stands l p (tree .opcode)
+
+add-zero : (n : ℕ) → n + 0 ≡ n
+add-zero n = omega arith
+
+some-name : (t : LineTree) → 0 < length (namesOf t)
+some-name t = omega arith
+
+pub place-3 : (l : List ℕ) (p : ℕ) → Answers l (refused-at 3 p) → WrongOpcode l p
+place-3 l p (refuses-at f x) = go (first-applies l 3 readingOrder f)
+  where
+    go : Applies l 3 → WrongOpcode l p
+    go (unknown t s z) =
+        let e : headStart t + 0 ≡ p = add-zero (headStart t) ∙ placed-one l (short-line l 3 p f x) 3 (headStart t) p (at-opcode t s) x in
+        record { tree = t; shaped = s; unlisted = z; stands = subst (λ (q : ℕ). Stands l q (t .opcode)) e (name-at l t s 0 (some-name t)) }
+
+-- For 4 and 5: the start of the first modifier, or of the guard or operand, that no legal list has after the ones before it (register numbers
+-- and equal pairs aside), or the end of the list if it is only too short
+pub record WrongModifier (l : List ℕ) (p : ℕ) : Type 0 where
+  pub tree : LineTree
+  pub shaped : Shaped l tree
+  -- so many names, the opcode among them, begin a row
+  pub right : ℕ
+  pub begins : Begins LegalNames (take right (namesOf tree))
+  -- the next stands at p, and with it no row begins
+  pub next : right < length (namesOf tree) → Stands l p (getD (namesOf tree) right []) × (Begins LegalNames (take (suc right) (namesOf tree)) → ⊥)
+  -- or there is none, and p is behind the head
+  pub end : right ≡ length (namesOf tree) → p ≡ headStart tree + length (headText (namesOf tree))
+
+pub place-4 : (l : List ℕ) (p : ℕ) → Answers l (refused-at 4 p) → WrongModifier l p
+place-4 l p (refuses-at f (at-modifier t s k x)) = record {
+  tree = t;
+  shaped = s;
+  right = k;
+  begins = x .begins;
+  next = λ h. (name-at l t s k h, x .wrong h);
+  end = λ e. ap (λ (n : ℕ). headStart t + nameStart (namesOf t) n) e ∙ ap (λ (n : ℕ). headStart t + n) (names-end (namesOf t));
+}
+
+-- the guard is no predicate: it stands at p, with its `@`
+pub record WrongGuard (l : List ℕ) (p : ℕ) : Type 0 where
+  pub tree : LineTree
+  pub shaped : Shaped l tree
+  pub negated : Bool
+  pub register : Place
+  pub blanks : List ℕ
+  pub guard : tree .guard ≡ guarded negated register blanks
+  pub no-pred : (n : ℕ) → register ≡ pred n → ⊥
+  pub stands : Stands l p (guardText negated register)
+
+pub record WrongOperand (l : List ℕ) (p : ℕ) : Type 0 where
+  pub tree : LineTree
+  pub shaped : Shaped l tree
+  -- so many operands begin a legal list under the head
+  pub right : ℕ
+  pub begins : Begins (LegalOperands (namesOf tree)) (take right (operandsOf tree))
+  -- the next stands at p, and with it no list begins
+  pub next : right < length (operandsOf tree)
+      → Stands l p (operandText (getD (operandsOf tree) right (tree .first))) × (Begins (LegalOperands (namesOf tree)) (take (suc right) (operandsOf tree)) → ⊥)
+  -- or there is none, and p is behind the last
+  pub end : right ≡ length (operandsOf tree) → p ≡ operandsStart tree + length (operandText (tree .first) ++ dividedText (tree .others))
+
+pub data WrongFit (l : List ℕ) (p : ℕ) : Type 0 where
+  of-guard : WrongGuard l p → WrongFit l p
+  of-operand : WrongOperand l p → WrongFit l p
+
+pub place-5 : (l : List ℕ) (p : ℕ) → Answers l (refused-at 5 p) → WrongFit l p
+place-5 l p (refuses-at f (at-guard t s k)) = go (t .guard) refl k
+  where
+    go : (g : GuardTree) → t .guard ≡ g → ((h : Guard) → GuardSpells g h → ⊥) → WrongFit l (guardStart t)
+    go unguarded e z = absurd (z Always tt)
+    go (guarded n q b) e z = of-guard (record {
+      tree = t;
+      shaped = s;
+      negated = n;
+      register = q;
+      blanks = b;
+      guard = e;
+      no-pred = λ i d. z (When (record { inverted = n; pred = record { 0 = i } })) (refl, d);
+      stands = guard-at l t s n q b e;
+    })
+place-5 l p (refuses-at f (at-operand t s g h k x)) = of-operand (record {
+  tree = t;
+  shaped = s;
+  right = k;
+  begins = x .begins;
+  next = λ i. (operand-at l t s k i, x .wrong i);
+  end = λ e. ap (λ (n : ℕ). operandsStart t + operandStart (t .first) (t .others) n) e ∙ ap (λ (n : ℕ). operandsStart t + n) (operands-end (t .first) (t .others));
+})
+
+-- for 6 the first such register: it stands at p, with its `%`
+pub place-6 : (l : List ℕ) (p : ℕ) → Answers l (refused-at 6 p) → (q : Place) × (fileSize q ≤ numberOf q) × Stands l p (registerText q)
+place-6 l p (refuses-at f (at-register t s o)) = outside-at l t s p o
+
+-- for 7 the second place: it stands at p, behind the first and `|`
+pub record WrongPair (l : List ℕ) (p : ℕ) : Type 0 where
+  pub register : Place
+  pub start : ℕ
+  pub first : Stands l start (registerText register ++ bytes "|")
+  pub behind : p ≡ start + length (registerText register ++ bytes "|")
+  pub second : Stands l p (registerText register)
+
+pub place-7 : (l : List ℕ) (p : ℕ) → Answers l (refused-at 7 p) → WrongPair l p
+place-7 l p (refuses-at f (at-second t s q e)) =
+    let x = second-at l t s q e in
+    record { register = q; start = operandsStart t; first = x .0; behind = refl; second = x .1 }

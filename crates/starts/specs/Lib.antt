@@ -1,0 +1,4 @@
+pub mod Without
+pub mod Starts
+pub mod StartLaws
+pub mod Over
