@@ -9,7 +9,7 @@ use Rattle.signs.specs.Text.{bytes}
 use Rattle.record.specs.Registers.{Place, numberOf, fileSize}
 use Rattle.rules.specs.Shape.{Name, dotted, headText, registerText, Spot, at, nothing, spotText, OperandTree, inverted, pair, bare, part, operandText, guardText}
 use Rattle.rules.specs.Grammar.{LineTree, GuardTree, unguarded, guarded, guardTreeText, Divided, dividedText, lineText, namesOf, operandsOf, Shaped}
-use Rattle.rules.specs.BytePlaces.{guardStart, headStart, nameStart, operandsStart, operandLength, operandStart, Register, after, spotRegisters, operandRegisters, operandsRegisters, guardRegisters, registersOf, FirstOutside, here, later}
+use Rattle.rules.specs.BytePlaces.{guardStart, headStart, nameStart, operandsStart, toNextOperand, operandStart, Register, after, spotRegisters, operandRegisters, operandsRegisters, guardRegisters, registersOf, FirstOutside, here, later}
 
 -- the text s stands in the line at byte p
 pub record Stands (l : List ℕ) (p : ℕ) (s : List ℕ) : Type 0 where
@@ -88,7 +88,7 @@ operand-stands o (d ∷ ds) (suc k) h =
 pub operands-end : (o : OperandTree) (ds : List Divided) → operandStart o ds (length (operandsIn o ds)) ≡ length (operandsText o ds)
 operands-end o [] = ap length (sym (append-nil (operandText o)))
 operands-end o (d ∷ ds) =
-    ap (λ (k : ℕ). operandLength o d + k) (operands-end (d .operand) ds)
+    ap (λ (k : ℕ). toNextOperand o d + k) (operands-end (d .operand) ds)
     ∙ sym (length-append (operandText o ++ d .before ++ bytes "," ++ d .after) (operandsText (d .operand) ds))
     ∙ ap length (divided o d ds)
 
@@ -132,7 +132,7 @@ operands-each : (o : OperandTree) (ds : List Divided) → EachStands (operandsTe
 operands-each o [] = each-then [] (operand-each o)
 operands-each o (d ∷ ds) =
     each-append (each-then (dividedText (d ∷ ds)) (operand-each o))
-    (subst (λ (l : List ℕ). EachStands l (after (operandLength o d) (operandsRegisters (d .operand) ds))) (divided o d ds)
+    (subst (λ (l : List ℕ). EachStands l (after (toNextOperand o d) (operandsRegisters (d .operand) ds))) (divided o d ds)
     (each-past (operandText o ++ d .before ++ bytes "," ++ d .after) (operands-each (d .operand) ds)))
 
 guard-each : (g : GuardTree) → EachStands (guardTreeText g) (guardRegisters g)
@@ -173,7 +173,7 @@ module _ (l : List ℕ) (t : LineTree) (shaped : Shaped l t) where
       moved (ap (λ (g : GuardTree). t .before ++ (guardTreeText g ++ behindGuard t)) (sym e) ∙ line-guard t ∙ shaped .text) (omega arith)
       (inside (t .before) (behindGuard t) (front (guardText n q) b))
 
-  -- the k-th name of the head, or the head's end
+  -- the k-th name of the head
   pub name-at : (k : ℕ) → k < length (namesOf t) → Stands l (headStart t + nameStart (namesOf t) k) (getD (namesOf t) k [])
   name-at k h =
       moved (line-head t ∙ shaped .text) (ap (λ (n : ℕ). n + nameStart (namesOf t) k) (length-append (t .before) (guardTreeText (t .guard))))

@@ -77,12 +77,13 @@ execute-11 x f e s b = outcomes.execute-11 x f e s b
 -- A refusal carries document 01's number and leaves registers, predicates and the output buffer exactly as they were lent.
 
 -- (a line is lent to be read only: by its type it stays as it is)
-pub read-refused : (l : List ℕ) (n : ℕ) → Answers l (refused n) → Listed n readingOrder
-read-refused l n a = promises.refused-listed l n a
+pub read-refused : (l : List ℕ) (n : ℕ) → Answers l (refused n) → Listed n readingOrder × Listed n placeless
+read-refused l n a = (promises.refused-listed l n a, promises.refused-first l n a .1)
 
--- T-05: refusals 2 to 7 carry a byte place, which is one of the line or its length
-pub read-refused-at : (l : List ℕ) (n q : ℕ) → Answers l (refused-at n q) → Listed n readingOrder × (q ≤ length l)
-read-refused-at l n q a = (promises.refused-at-listed l n q a, promises.refused-at-within l n q a .0)
+-- T-05: refusals 2 to 7, all but 1, carry a byte place, which is one of the line or its length
+pub read-refused-at : (l : List ℕ) (n q : ℕ) → Answers l (refused-at n q) → Listed n readingOrder × (Listed n placeless → ⊥) × (q ≤ length l)
+read-refused-at l n q a =
+    (promises.refused-at-listed l n q a, λ i. answering.placeless-unplaced l n q i (promises.refused-at-first l n q a .1), promises.refused-at-within l n q a .0)
 
 pub write-refused : (x : Record) (b : List ℕ) (n : ℕ) → writing x b .answer ≡ paper.refused n → Listed n (8 ∷ 9 ∷ []) × (writing x b .buffer ≡ b)
 write-refused x b n e = outcomes.write-refused x b n e

@@ -11,12 +11,15 @@ use Rattle.signs.specs.Lists.{Listed}
 use Rattle.record.specs.Registers.{Place, pred, numberOf, fileSize}
 use Rattle.record.specs.declared.Guard.{Guard}
 use Rattle.record.specs.declared.Guard.the-variants.{Always, When}
+use Rattle.record.specs.declared.Instruction.{Instruction}
+use Rattle.record.specs.declared.Record.{Record}
 use Rattle.rules.specs.Shape.{headText, registerText, operandText, guardText}
 use Rattle.rules.specs.Grammar.{LineTree, GuardTree, unguarded, guarded, dividedText, namesOf, operandsOf, Shaped}
-use Rattle.rules.specs.BytePlaces.{Begins, ShapedLine, guardStart, headStart, nameStart, operandsStart, operandStart}
-use Rattle.rules.specs.Reading.{GuardSpells, opcodes, readingOrder, Applies, unknown, LegalNames, LegalOperands, at-byte, at-opcode, at-modifier, at-guard, at-operand, at-register, at-second, Answers, refuses-at, refused-at}
+use Rattle.rules.specs.BytePlaces.{Begins, ShapedLine, guardStart, headStart, nameStart, operandsStart, operandStart, registersOf, FirstOutside}
+use Rattle.rules.specs.Reading.{GuardSpells, Spells, lineLimit, opcodes, Row, Fits, readingOrder, Applies, shapeless, unknown, rowless, unfit, LegalNames, LegalOperands, at-byte, at-opcode, at-modifier, at-guard, at-operand, at-register, at-second, Answers, refuses-at, refused-at}
 use Rattle.begins.specs.FirstWrongLaws.{before-begins, behind-begins-none}
 use Rattle.begins.specs.Standing.{Stands, names-end, operands-end, guard-at, name-at, operand-at, outside-at, second-at}
+use Rattle.read.specs.Laws.{spelled-by-all, row-by-all}
 use Rattle.read.specs.Answering.{first-applies, placed-one, short-line}
 
 -- For 2: the first byte with which the line begins as no line of the right shape, however long, does, or the line's length if it is only
@@ -26,6 +29,13 @@ before-2 l p (refuses-at f (at-byte x)) k h = before-begins ShapedLine l p k x h
 
 pub behind-2 : (l : List ℕ) (p : ℕ) → Answers l (refused-at 2 p) → (k : ℕ) → p < k → k ≤ length l → Begins ShapedLine (take k l) → ⊥
 behind-2 l p (refuses-at f (at-byte x)) k h i = behind-begins-none ShapedLine l p k x h i
+
+-- (and the line has not the shape, so that the length is the place only of an unfinished one)
+pub not-shaped-2 : (l : List ℕ) (p : ℕ) → Answers l (refused-at 2 p) → ShapedLine l → ⊥
+not-shaped-2 l p (refuses-at f x) = go (first-applies l 2 readingOrder f)
+  where
+    go : Applies l 2 → ShapedLine l → ⊥
+    go (shapeless z) s = z (s .tree) (s .shaped)
 
 -- For 3 the opcode
 pub record WrongOpcode (l : List ℕ) (p : ℕ) : Type 0 where
@@ -53,19 +63,27 @@ place-3 l p (refuses-at f x) = go (first-applies l 3 readingOrder f)
 pub record WrongModifier (l : List ℕ) (p : ℕ) : Type 0 where
   pub tree : LineTree
   pub shaped : Shaped l tree
-  -- so many names, the opcode among them, begin a row
+  -- the names are no row; so many of them, the opcode among these, begin one
+  pub not-legal : LegalNames (namesOf tree) → ⊥
   pub right : ℕ
+  pub within : right ≤ length (namesOf tree)
   pub begins : Begins LegalNames (take right (namesOf tree))
   -- the next stands at p, and with it no row begins
   pub next : right < length (namesOf tree) → Stands l p (getD (namesOf tree) right []) × (Begins LegalNames (take (suc right) (namesOf tree)) → ⊥)
   -- or there is none, and p is behind the head
   pub end : right ≡ length (namesOf tree) → p ≡ headStart tree + length (headText (namesOf tree))
 
+-- no tree of the line has the names of a row
+rowless-all : (l : List ℕ) (t : LineTree) → Shaped l t → length l ≤ lineLimit → Applies l 4 → (i : Instruction) → Row (namesOf t) i → ⊥
+rowless-all l t s h (rowless u v z) i r = z i (row-by-all l h t u s v i r)
+
 pub place-4 : (l : List ℕ) (p : ℕ) → Answers l (refused-at 4 p) → WrongModifier l p
 place-4 l p (refuses-at f (at-modifier t s k x)) = record {
   tree = t;
   shaped = s;
+  not-legal = λ r. rowless-all l t s (short-line l 4 p f (at-modifier t s k x)) (first-applies l 4 readingOrder f) (r .instruction) (r .row);
   right = k;
+  within = x .within;
   begins = x .begins;
   next = λ h. (name-at l t s k h, x .wrong h);
   end = λ e. ap (λ (n : ℕ). headStart t + nameStart (namesOf t) n) e ∙ ap (λ (n : ℕ). headStart t + n) (names-end (namesOf t));
@@ -85,8 +103,13 @@ pub record WrongGuard (l : List ℕ) (p : ℕ) : Type 0 where
 pub record WrongOperand (l : List ℕ) (p : ℕ) : Type 0 where
   pub tree : LineTree
   pub shaped : Shaped l tree
-  -- so many operands begin a legal list under the head
+  -- the guard is right, or there is none
+  pub guard : Guard
+  pub spelled : GuardSpells (tree .guard) guard
+  -- the operands are no legal list under the head; so many of them begin one
+  pub not-legal : LegalOperands (namesOf tree) (operandsOf tree) → ⊥
   pub right : ℕ
+  pub within : right ≤ length (operandsOf tree)
   pub begins : Begins (LegalOperands (namesOf tree)) (take right (operandsOf tree))
   -- the next stands at p, and with it no list begins
   pub next : right < length (operandsOf tree)
@@ -97,6 +120,14 @@ pub record WrongOperand (l : List ℕ) (p : ℕ) : Type 0 where
 pub data WrongFit (l : List ℕ) (p : ℕ) : Type 0 where
   of-guard : WrongGuard l p → WrongFit l p
   of-operand : WrongOperand l p → WrongFit l p
+
+-- no tree of the line with a right guard has a legal list of operands
+unfit-all : (l : List ℕ) (t : LineTree) → Shaped l t → (g : Guard) → GuardSpells (t .guard) g → length l ≤ lineLimit → Applies l 5
+    → LegalOperands (namesOf t) (operandsOf t) → ⊥
+unfit-all l t s g e h (unfit u v i r z) o =
+    let m : Record = record { guard = g; instruction = o .instruction } in
+    let k : Spells t m = record { guard = e; head = o .row .names; operands = o .spells } in
+    z m (record { spells = spelled-by-all l h t u s v m k; modifiers = o .row .fit; operands = o .fit })
 
 pub place-5 : (l : List ℕ) (p : ℕ) → Answers l (refused-at 5 p) → WrongFit l p
 place-5 l p (refuses-at f (at-guard t s k)) = go (t .guard) refl k
@@ -116,25 +147,40 @@ place-5 l p (refuses-at f (at-guard t s k)) = go (t .guard) refl k
 place-5 l p (refuses-at f (at-operand t s g h k x)) = of-operand (record {
   tree = t;
   shaped = s;
+  guard = g;
+  spelled = h;
+  not-legal = unfit-all l t s g h (short-line l 5 p f (at-operand t s g h k x)) (first-applies l 5 readingOrder f);
   right = k;
+  within = x .within;
   begins = x .begins;
   next = λ i. (operand-at l t s k i, x .wrong i);
   end = λ e. ap (λ (n : ℕ). operandsStart t + operandStart (t .first) (t .others) n) e ∙ ap (λ (n : ℕ). operandsStart t + n) (operands-end (t .first) (t .others));
 })
 
 -- for 6 the first such register: it stands at p, with its `%`
-pub place-6 : (l : List ℕ) (p : ℕ) → Answers l (refused-at 6 p) → (q : Place) × (fileSize q ≤ numberOf q) × Stands l p (registerText q)
-place-6 l p (refuses-at f (at-register t s o)) = outside-at l t s p o
-
--- for 7 the second place: it stands at p, behind the first and `|`
-pub record WrongPair (l : List ℕ) (p : ℕ) : Type 0 where
+pub record WrongRegister (l : List ℕ) (p : ℕ) : Type 0 where
+  pub tree : LineTree
+  pub shaped : Shaped l tree
+  -- those before it, from left to right, are in their files
+  pub first : FirstOutside (registersOf tree) p
   pub register : Place
+  pub outside : fileSize register ≤ numberOf register
+  pub stands : Stands l p (registerText register)
+
+pub place-6 : (l : List ℕ) (p : ℕ) → Answers l (refused-at 6 p) → WrongRegister l p
+place-6 l p (refuses-at f (at-register t s o)) =
+    let x = outside-at l t s p o in
+    record { tree = t; shaped = s; first = o; register = x .0; outside = x .1; stands = x .2 }
+
+-- for 7 the second place: it stands at p, behind the same predicate and `|`
+pub record WrongPair (l : List ℕ) (p : ℕ) : Type 0 where
+  pub number : ℕ
   pub start : ℕ
-  pub first : Stands l start (registerText register ++ bytes "|")
-  pub behind : p ≡ start + length (registerText register ++ bytes "|")
-  pub second : Stands l p (registerText register)
+  pub first : Stands l start (registerText (pred number) ++ bytes "|")
+  pub behind : p ≡ start + length (registerText (pred number) ++ bytes "|")
+  pub second : Stands l p (registerText (pred number))
 
 pub place-7 : (l : List ℕ) (p : ℕ) → Answers l (refused-at 7 p) → WrongPair l p
-place-7 l p (refuses-at f (at-second t s q e)) =
-    let x = second-at l t s q e in
-    record { register = q; start = operandsStart t; first = x .0; behind = refl; second = x .1 }
+place-7 l p (refuses-at f (at-second t s n e)) =
+    let x = second-at l t s (pred n) e in
+    record { number = n; start = operandsStart t; first = x .0; behind = refl; second = x .1 }

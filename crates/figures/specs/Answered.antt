@@ -13,10 +13,10 @@ use Rattle.scan.specs.Registers.{registerOf, registerBy, prefixBy, registerFrom
 use Rattle.shape.specs.Turns.{turns}
 use Rattle.shape.specs.Guard.{guardOf, guardBy}
 use Rattle.shape.specs.Head.{headOf, nameTurn, nameBy, pushedName}
-use Rattle.shape.specs.Operand.{operandScanned, firstOf, afterBy, partOf, secondOf, secondBy}
+use Rattle.shape.specs.Operand.{operandScanned, invertedBy, firstOf, afterBy, partOf, secondOf, secondBy}
 use Rattle.shape.specs.Operands.{operandsScanned, operandTurn, operandBy, dividedBy, dividerOf, dividerBy, pushedTree}
 use Rattle.shape.specs.Line.{shapeOf, guardedBy, fromHead, fromGap, fromOperands, fromEnd, stoppedAt}
-use Rattle.names.specs.Back.{opcodeOf, videoOf, typeOf, sixOf, cmpOf, boolOpOf, op2Of}
+use Rattle.names.specs.Back.{opcodeOf, videoOf, setTypeOf, typeOf, sixOf, cmpOf, boolOpOf, op2Of, selectorOf}
 use Rattle.heads.specs.Rows.{rowOf, rowBy, foundOf, readOf as readHead, nameAt, wholeOf, sidesAt, sidesBy, headCompared, comparedBy, typedOf, typedBy, endingAt, endingBy, arithmeticRow, arithmeticTyped, arithmeticBy, vsetLanesRow, vsetLanesBy, testedOf, testedBy, testAt, setRow, setTested, setAt, setBy, setpRow, setpTested, setpAt, setpBy, selpRow, selpBy, slctRow, slctAt, slctBy}
 use Rattle.heads.specs.Tables.{slctTypeOf}
 use Rattle.masks.specs.Masks.{maskOf, falling, digitsNamed, digitsIn}
@@ -79,6 +79,8 @@ answered =
     ∷ gets (bytes "selp.u32 %r1, 7, %r2, %p1;") (refused-at 2 14)
     ∷ gets (bytes "   ") (refused-at 2 3)
     ∷ gets (bytes "selp.u32 %r40, %r1, %r2, %p1") (refused-at 2 28)
+    -- however long: 36 bytes and 124 blanks, and the semicolon would be the 161st
+    ∷ gets (bytes "vset4.u32.u32.lt %r10, %r1, %r2, %r0" ++ replicate 124 32) (refused-at 2 160)
     -- for 3 the opcode, behind blanks and a guard
     ∷ gets (bytes " @!%p1 mov.u32 %r1, %r2;") (refused-at 3 7)
     -- for 4 the first modifier that no legal list has after the ones before it, or the end of the list if it is only too short
@@ -89,19 +91,25 @@ answered =
     ∷ gets (bytes "slct.b32.ftz.f32 %r1, %r2, %r3, %r4;") (refused-at 4 9)
     -- for 5 the guard; the first operand that no legal list has after the ones before it; the end of the list
     ∷ gets (bytes "@%r1 selp.u32 %r1, %r2, %r3, %p1;") (refused-at 5 0)
-    ∷ gets (bytes "vadd.u32.u32.u32 %r1, %r2, %r3, %r4;") (refused-at 5 32)
+    ∷ gets (bytes "@%r1 selp.u32 %p1, %r2, %r3, %p1;") (refused-at 5 0)
+    ∷ gets (bytes "vadd.u32.u32.u32 %r1, %r1, %r1, %r1;") (refused-at 5 32)
+    ∷ gets (bytes "selp.u32 %rd1, %r2, %r3, %p1;") (refused-at 5 9)
+    ∷ gets (bytes "vset4.u32.u32.lt %r1.b01, %r2, %r3, %r4;") (refused-at 5 17)
     ∷ gets (bytes "vadd.u32.u32.u32.add %r1.b0, %r2, %r3, %r4;") (refused-at 5 21)
+    -- register numbers and equal pairs aside
     ∷ gets (bytes "setp.lt.and.u32 %p1, %r1, %r64, !%r1;") (refused-at 5 32)
+    ∷ gets (bytes "setp.lt.u32 %p1|%p1, %r1, %rd2;") (refused-at 5 26)
     ∷ gets (bytes "vadd.u32.u32.u32 %r1.b0, %r2, %r3 ;") (refused-at 5 33)
     -- for 6 the first such register, guard first, for 7 the second place
     ∷ gets (bytes "@%p16 selp.u32 %r64, %r2, %r3, %p1;") (refused-at 6 1)
+    ∷ gets (bytes "selp.u32 %r64, %r65, %r3, %p1;") (refused-at 6 9)
     ∷ gets (bytes "selp.u32 %r1, %r2, %r3, %p16;") (refused-at 6 24)
     ∷ gets (bytes "@%p1 setp.lt.u32 %p1|%p1, %r1, %r2;") (refused-at 7 21)
     ∷ []
 
 -- the reader's stages give each line its answer
 answered-computed : map (λ (x : Answered). readOf (x .line)) answered ≡ map (λ (x : Answered). x .answer) answered
-unfolding answered readOf refusedBy verdictOf placeOf partsPlaceOf modifierPlaceOf guardPlaceOf legalPlaceOf operandIndexOf rowPlaceOf row.guessOf beginsRow row.tried row.completed row.entry isRow operandPlaceOf fill.guessOf beginsFilled fill.tried fill.completed fill.entry isFilled turnsAt searched shapePlaceOf wrongFrom step register digits follow ends named headAt guardEnd nameFrom operandsAt operandFrom nextAt nextOf nextBy barAt overAt candidateOf shapeOf guardedBy guardOf guardBy fromHead headOf turns nameTurn nameBy pushedName fromGap fromOperands operandsScanned operandTurn operandBy operandScanned firstOf afterBy partOf secondOf secondBy dividedBy dividerOf dividerBy pushedTree fromEnd stoppedAt registerOf registerBy prefixBy registerFrom numberFound numberBy cappedSum codeOf rowOf rowBy foundOf readHead nameAt wholeOf sidesAt sidesBy headCompared comparedBy typedOf typedBy endingAt endingBy arithmeticRow arithmeticTyped arithmeticBy vsetLanesRow vsetLanesBy testedOf testedBy testAt setRow setTested setAt setBy setpRow setpTested setpAt setpBy selpRow selpBy slctRow slctAt slctBy slctTypeOf opcodeOf videoOf typeOf sixOf cmpOf boolOpOf op2Of maskOf falling digitsNamed digitsIn filledOf treeAt scalarFrom lanesFrom comparisonFrom choiceFrom
+unfolding answered readOf refusedBy verdictOf placeOf partsPlaceOf modifierPlaceOf guardPlaceOf legalPlaceOf operandIndexOf rowPlaceOf row.guessOf beginsRow row.tried row.completed row.entry isRow operandPlaceOf fill.guessOf beginsFilled fill.tried fill.completed fill.entry isFilled turnsAt searched shapePlaceOf wrongFrom step register digits follow ends named headAt guardEnd nameFrom operandsAt operandFrom nextAt nextOf nextBy barAt overAt candidateOf shapeOf guardedBy guardOf guardBy fromHead headOf turns nameTurn nameBy pushedName fromGap fromOperands operandsScanned operandTurn operandBy operandScanned invertedBy firstOf afterBy partOf secondOf secondBy dividedBy dividerOf dividerBy pushedTree fromEnd stoppedAt registerOf registerBy prefixBy registerFrom numberFound numberBy cappedSum codeOf rowOf rowBy foundOf readHead nameAt wholeOf sidesAt sidesBy headCompared comparedBy typedOf typedBy endingAt endingBy arithmeticRow arithmeticTyped arithmeticBy vsetLanesRow vsetLanesBy testedOf testedBy testAt setRow setTested setAt setBy setpRow setpTested setpAt setpBy selpRow selpBy slctRow slctAt slctBy slctTypeOf opcodeOf videoOf setTypeOf selectorOf typeOf sixOf cmpOf boolOpOf op2Of maskOf falling digitsNamed digitsIn filledOf treeAt scalarFrom lanesFrom comparisonFrom choiceFrom
 answered-computed = refl
 
 -- the grammar gives each line of a list the answer beside it

@@ -43,12 +43,14 @@ fn is_filled(i: Instruction, o: Operands) -> bool
     is_full(fills::fill_in(i, o))
 }
 
+// `_|_`, which no list has.
 fn none() -> Tree
     ensures { λ r. ⌜ r ≡ none ⌝ }
 {
     Tree::Pair(Spot::Nothing, Spot::Nothing)
 }
 
+// Numbers are aside: 0 stands for any.
 fn any_word() -> Tree
     ensures { λ r. ⌜ r ≡ anyWord ⌝ }
 {
@@ -113,7 +115,7 @@ fn tried(i: Instruction, o: Operands, k: u8, n: u8, x: Tree, y: Tree, z: Tree) -
     is_filled(i, completed(o, k, n, x, y, z))
 }
 
-// Whether some legal list begins with the first k operands.
+// Whether some legal list begins with the first k operands, k being over 0.
 fn begins_filled(i: Instruction, o: Operands, k: usize) -> bool
     ensures { λ r. ⌜ r ≡ beginsFilled i o k ⌝ }
 {
@@ -140,7 +142,7 @@ fn begins_filled(i: Instruction, o: Operands, k: usize) -> bool
                                                     | tried(i, o, m, 3, q, q, w))))))))))))
 }
 
-// Where the reader stopped is mostly right.
+// Tried first, to save the search: where the reader stopped is mostly right.
 fn guess(f: Filled) -> usize
     ensures { λ r. ⌜ r ≡ guessOf f ⌝ }
 {

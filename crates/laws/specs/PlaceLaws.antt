@@ -38,7 +38,7 @@ use Rattle.rules.specs.Names.{maskName, digitsName}
 use Rattle.rules.specs.Spelling.{sameMask, sameDigits, selectedTree, formTree, formLast, combinationLast, destinationTree, scalarTrees, lanesTrees, operandTrees, writtenLanes, writtenTrees}
 use Rattle.rules.specs.Grammar.{LineTree, GuardTree, unguarded, guarded, Divided, operandsOf}
 use Rattle.rules.specs.Reading.{GuardSpells, OneOf, as-standard, as-written, Spelled, Spells}
-use Rattle.rules.specs.BytePlaces.{Register, after, spotRegisters, operandRegisters, operandLength, operandsRegisters, guardStart, operandsStart, guardRegisters, registersOf, FirstOutside, here as outside-here, later as outside-later}
+use Rattle.rules.specs.BytePlaces.{Register, after, spotRegisters, operandRegisters, toNextOperand, operandsRegisters, guardStart, operandsStart, guardRegisters, registersOf, FirstOutside, here as outside-here, later as outside-later}
 use Rattle.signs.specs.Lists.{Listed}
 use Rattle.signs.specs.Lists.Listed.{here, later}
 use Rattle.rules.specs.Reading.Spelled.{none, more}
@@ -93,8 +93,8 @@ operand-places (part q n) = refl
 operands-places : (o : OperandTree) (ds : List Divided) → map place (operandsRegisters o ds) ≡ operandsPlaces (o ∷ map (λ (d : Divided). d .operand) ds)
 operands-places o [] = operand-places o ∙ sym (append-nil (operandPlaces o))
 operands-places o (d ∷ ds) =
-    map-app place (operandRegisters o) (after (operandLength o d) (operandsRegisters (d .operand) ds))
-    ∙ rw (after-places (operandLength o d) (operandsRegisters (d .operand) ds), operand-places o, operands-places (d .operand) ds)
+    map-app place (operandRegisters o) (after (toNextOperand o d) (operandsRegisters (d .operand) ds))
+    ∙ rw (after-places (toNextOperand o d) (operandsRegisters (d .operand) ds), operand-places o, operands-places (d .operand) ds)
 
 guard-places : (g : GuardTree) → map place (guardRegisters g) ≡ guardPlaces g
 guard-places unguarded = refl

@@ -72,9 +72,9 @@ good-operands ds (other-more {ds = es} g gs) = operand-more (g .operand) (good-o
 -- ==== the pair
 
 -- only d of setp may be a pair
-pair-first : (o : OperandTree) (os : List OperandTree) (i : Instruction) → Spelled (o ∷ os) (operandTrees i) (writtenTrees i) → instructionApart i ≡ false → (q : Place) × (o ≡ pair (at q) (at q))
-pair-first o os (Setp (Pair a b) s) (more (as-standard h) k) e = (p a, h ∙ ap (λ (n : ℕ). pair (at (p a)) (at (pred n))) (sym (eqb-true (a .0) (b .0) (not-false _ e))))
-pair-first o os (Setp (Pair a b) s) (more (as-written h) k) e = (p a, h ∙ ap (λ (n : ℕ). pair (at (p a)) (at (pred n))) (sym (eqb-true (a .0) (b .0) (not-false _ e))))
+pair-first : (o : OperandTree) (os : List OperandTree) (i : Instruction) → Spelled (o ∷ os) (operandTrees i) (writtenTrees i) → instructionApart i ≡ false → (n : ℕ) × (o ≡ pair (at (pred n)) (at (pred n)))
+pair-first o os (Setp (Pair a b) s) (more (as-standard h) k) e = (a .0, h ∙ ap (λ (n : ℕ). pair (at (p a)) (at (pred n))) (sym (eqb-true (a .0) (b .0) (not-false _ e))))
+pair-first o os (Setp (Pair a b) s) (more (as-written h) k) e = (a .0, h ∙ ap (λ (n : ℕ). pair (at (p a)) (at (pred n))) (sym (eqb-true (a .0) (b .0) (not-false _ e))))
 pair-first o os (Setp (One a) s) k e = off e
 pair-first o os (Setp (First a) s) k e = off e
 pair-first o os (Setp (Second b) s) k e = off e
@@ -127,8 +127,8 @@ module _ (l : List ℕ) (short : length l ≤ lineLimit) (t : LineTree) (shaped 
   register-is : (q : ℕ) → FirstOutside (registersOf t) q → overAt 0 l ≡ q
   register-is q o = ap (overAt 0) (sym (shaped .text)) ∙ first-over-is t good q o
 
-  second-is : (q : Place) → t .first ≡ pair (at q) (at q) → barAt l ≡ operandsStart t + length (registerText q ++ bytes "|")
-  second-is q e = ap barAt (sym (shaped .text)) ∙ second-start-is t (at q) (at q) good within e
+  second-is : (n : ℕ) → t .first ≡ pair (at (pred n)) (at (pred n)) → barAt l ≡ operandsStart t + length (registerText (pred n) ++ bytes "|")
+  second-is n e = ap barAt (sym (shaped .text)) ∙ second-start-is t (at (pred n)) (at (pred n)) good within e
 
   -- ---- the index of the first wrong name, of the first wrong operand
 
@@ -224,4 +224,4 @@ module _ (l : List ℕ) (short : length l ≤ lineLimit) where
   placed-within n q (at-guard t s k) = within-line t s (omega (arith, name-start-within t 0))
   placed-within n q (at-operand t s g h k f) = within-line t s (operand-start-within t k)
   placed-within n q (at-register t s o) = subst (λ (k : ℕ). k ≤ length l) (register-is l short t s q o) (over-within l)
-  placed-within n q (at-second t s r e) = within-line t s (second-within t r e)
+  placed-within n q (at-second t s r e) = within-line t s (second-within t (pred r) e)

@@ -82,7 +82,7 @@ fn guarded_place(line: &[u8], g: Guarding, head: Head, operands: Operands) -> us
 
 // ---- every refusal
 
-// The numbers of the refusals that carry a place; any other counts as 5.
+// Of 2 to 7, the numbers of the refusals that carry a place; 5 is what is left.
 const NO_SHAPE: u8 = 2;
 
 const NO_OPCODE: u8 = 3;
@@ -114,6 +114,7 @@ fn shaped_place(n: u8, line: &[u8]) -> usize
     parts_place(n, line, parts)
 }
 
+// The place of refusal n of a line that gets it; of another line it says nothing.
 pub fn place(n: u8, line: &[u8]) -> usize
     ensures { λ r. ⌜ r ≡ placeOf n (now (line .entry)) ⌝ }
 {

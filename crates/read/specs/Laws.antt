@@ -349,6 +349,14 @@ spelled-by-all l h t u s v m k =
     let same : guardIn (seenGuard (u .guard)) ≡ m .guard = ap (λ (x : Parts). guardIn (x .guard)) (sym e) ∙ g .1 in
     subst (λ (w : Guard). Spells u (recordOf w (m .instruction))) same (found-spells l h u v (blank (m .instruction)) (m .instruction) row full good .0)
 
+-- and a row of which one tree of a line has the names, each of its trees has
+pub row-by-all : (l : List ℕ) → length l ≤ lineLimit → (t u : LineTree) → Shaped l t → Shaped l u → (i : Instruction) → Row (namesOf t) i → Row (namesOf u) i
+row-by-all l h t u s v i r =
+    let e : seen t ≡ seen u = sym (is-good l h t s .1) ∙ is-good l h u v .1 in
+    let f : rowOf (seenHead (namesOf t)) ≡ Found.Row (blank i) = ap (λ (ns : List Name). rowOf (seenHead ns)) (r .names) ∙ row-complete i in
+    let row : found l h u v ≡ Found.Row (blank i) = ap (λ (x : Parts). rowOf (x .head)) (sym e) ∙ f in
+    record { names = row-of l h u v (blank i) row ∙ blank-names i; fit = r .fit }
+
 -- ==== as the code decides, stage by stage
 
 -- the guard is looked at last

@@ -80,7 +80,7 @@ fn tried(head: Head, k: u8, n: u8, x: u64, y: u64, z: u64) -> bool
     is_row(completed(head, k, n, x, y, z))
 }
 
-// Whether some row begins with the first k names.
+// Whether some row begins with the first k names, k being over 0.
 fn begins_row(head: Head, k: usize) -> bool
     ensures { λ r. ⌜ r ≡ beginsRow head k ⌝ }
 {
@@ -101,7 +101,7 @@ fn begins_row(head: Head, k: usize) -> bool
                                             | tried(head, m, 2, names::EQ, names::U32, 0))))))))))
 }
 
-// Where the reader stopped is right, but where a comparison, `ftz` and a type do not fit together.
+// Tried first, to save the search: where the reader stopped is mostly right, and the last name where a comparison, `ftz` and a type do not fit.
 fn guess(f: Found, n: usize) -> usize
     ensures { λ r. ⌜ r ≡ guessOf f n ⌝ }
 {

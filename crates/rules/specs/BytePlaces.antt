@@ -48,14 +48,14 @@ nameStart (n ∷ []) (suc k) = length n
 nameStart (n ∷ m ∷ ns) (suc k) = length (n ++ bytes ".") + nameStart (m ∷ ns) k
 
 -- an operand with the comma behind it and the blanks around that
-abbrev pub operandLength : OperandTree → Divided → ℕ
-operandLength o d = length (operandText o ++ d .before ++ bytes "," ++ d .after)
+abbrev pub toNextOperand : OperandTree → Divided → ℕ
+toNextOperand o d = length (operandText o ++ d .before ++ bytes "," ++ d .after)
 
 -- from the first operand on: the first byte of the operand after k others, or the byte after the last operand
 abbrev pub operandStart : OperandTree → List Divided → ℕ → ℕ
 operandStart o ds zero = 0
 operandStart o [] (suc k) = length (operandText o)
-operandStart o (d ∷ ds) (suc k) = operandLength o d + operandStart (d .operand) ds k
+operandStart o (d ∷ ds) (suc k) = toNextOperand o d + operandStart (d .operand) ds k
 
 -- ==== the registers of a line, from left to right, each behind the place of its `%`
 
@@ -79,7 +79,7 @@ operandRegisters (part q n) = (0, q) ∷ []
 
 abbrev pub operandsRegisters : OperandTree → List Divided → List Register
 operandsRegisters o [] = operandRegisters o
-operandsRegisters o (d ∷ ds) = operandRegisters o ++ after (operandLength o d) (operandsRegisters (d .operand) ds)
+operandsRegisters o (d ∷ ds) = operandRegisters o ++ after (toNextOperand o d) (operandsRegisters (d .operand) ds)
 
 abbrev pub guardRegisters : GuardTree → List Register
 guardRegisters unguarded = []

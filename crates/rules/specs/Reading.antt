@@ -150,7 +150,7 @@ pub data Placed (l : List ℕ) : ℕ → ℕ → Type 0 where
   -- for 6 the first such register
   at-register : (t : LineTree) → Shaped l t → {p : ℕ} → FirstOutside (registersOf t) p → Placed l 6 p
   -- for 7 the second place; only d of setp may be a pair
-  at-second : (t : LineTree) → Shaped l t → (q : Place) → t .first ≡ pair (at q) (at q) → Placed l 7 (operandsStart t + length (registerText q ++ bytes "|"))
+  at-second : (t : LineTree) → Shaped l t → (n : ℕ) → t .first ≡ pair (at (pred n)) (at (pred n)) → Placed l 7 (operandsStart t + length (registerText (pred n) ++ bytes "|"))
 
 -- the others carry none
 abbrev pub placeless : List ℕ

@@ -13,7 +13,7 @@ use Rattle.signs.specs.Text.{bytes}
 use Rattle.record.specs.Registers.{Place, word, double, pred}
 use Rattle.rules.specs.Shape.{Name, dotted, headText, digit, registerText, Spot, at, nothing, spotText, OperandTree, pair, operandText}
 use Rattle.rules.specs.Grammar.{LineTree, Good, lineText, GuardTree, unguarded, guarded, guardTreeText, Divided, dividedText, namesOf, GoodName, GoodNames, GoodGuard, GoodOperand, GoodOthers}
-use Rattle.rules.specs.BytePlaces.{guardStart, headStart, nameStart, operandsStart, operandLength, operandStart}
+use Rattle.rules.specs.BytePlaces.{guardStart, headStart, nameStart, operandsStart, toNextOperand, operandStart}
 use Rattle.scan.specs.Runs.{runLength, cappedSum, most}
 use Rattle.scan.specs.RunLaws.{Stops, run-all, sum-is, seam, past-seam}
 use Rattle.shape.specs.GuardLaws.{blank-first, name-first, guard-complete, guard-first}
@@ -256,7 +256,7 @@ operand-within o ds zero = omega arith
 operand-within o [] (suc k) = omega arith
 operand-within o (d ∷ ds) (suc k) =
     let h = operand-within (d .operand) ds k in
-    let e : operandLength o d ≡ length (operandText o) + (length (d .before) + 1 + length (d .after)) = simp length-append (omega arith) in
+    let e : toNextOperand o d ≡ length (operandText o) + (length (d .before) + 1 + length (d .after)) = simp length-append (omega arith) in
     omega (arith, divided-length (d .before) (d .after) (operandText (d .operand)) (dividedText ds))
 
 first-within : (o : OperandTree) (ds : List Divided) → length (operandText o) ≤ operandStart o ds 1

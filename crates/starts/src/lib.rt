@@ -55,7 +55,7 @@ pub fn name_start(s: &[u8], k: usize) -> usize
     place
 }
 
-// A line has no more names.
+// A line of at most 160 bytes has no more names.
 const MANY: usize = 160;
 
 // The start of the first operand.
@@ -133,7 +133,7 @@ pub fn operand_start(s: &[u8], k: usize) -> usize
     place
 }
 
-// The start of the second place of the first pair: the byte after the line's first `|`.
+// The start of the second place of the first pair: the byte after the line's first `|`; without one, the byte after the line's length.
 pub fn second_start(line: &[u8]) -> usize
     ensures { λ r. ⌜ r ≡ barAt (now (line .entry)) ⌝ }
 {

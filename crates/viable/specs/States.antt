@@ -35,14 +35,20 @@ register k read.One b = cond (isDigit b) (Register k read.Two) (follow k b)
 register k read.Two b = cond (isDigit b) (Register k read.Whole) (follow k b)
 register k read.Whole b = follow k b
 
+abbrev pub inHead : ℕ → State
+inHead b = named b Name (cond (eqb b 46) Dot (cond (isBlank b) Operand Wrong))
+
+abbrev pub inList : ℕ → State
+inList b = cond (isBlank b) Operand (cond (eqb b 33) (Register role.Last read.Nothing) (cond (eqb b 95) Nothing (register role.First read.Nothing b)))
+
 unfoldable pub step : State → ℕ → State
 step Wrong b = Wrong
 step Start b = cond (isBlank b) Start (cond (eqb b 64) Guard (named b Name Wrong))
 step Guard b = cond (eqb b 33) (Register role.Guard read.Nothing) (register role.Guard read.Nothing b)
 step Blanks b = cond (isBlank b) Blanks (named b Name Wrong)
 step Dot b = named b Name Wrong
-step Name b = named b Name (cond (eqb b 46) Dot (cond (isBlank b) Operand Wrong))
-step Operand b = cond (isBlank b) Operand (cond (eqb b 33) (Register role.Last read.Nothing) (cond (eqb b 95) Nothing (register role.First read.Nothing b)))
+step Name b = inHead b
+step Operand b = inList b
 step Nothing b = cond (eqb b 124) Bar Wrong
 step Bar b = cond (eqb b 95) (Register role.Last read.Whole) (register role.Last read.Nothing b)
 step Part b = named b Selector Wrong

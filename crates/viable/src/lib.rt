@@ -5,7 +5,7 @@ use scan::is_digit;
 use scan::is_name_byte;
 ghost use mathlib.Core.Path.{_≡_};
 ghost use mathlib.Core.Bool.{cond};
-ghost use Rattle.viable.specs.States.{named, ends, follow, digits, register, step, isWrong, shapePlaceOf};
+ghost use Rattle.viable.specs.States.{named, ends, follow, digits, register, inHead, inList, step, isWrong, shapePlaceOf};
 
 // What a register is: a guard's, the first of an operand, or one that ends its operand.
 enum Role {
@@ -25,21 +25,21 @@ enum Read {
     Whole,
 }
 
-// What is read so far.
+// What is read so far. Of an operand that has ended, blanks behind it among them, this is `Register(Last, Whole)`.
 enum State {
     // What no line begins with.
     Wrong,
-    // Blanks.
+    // Blanks, or nothing.
     Start,
     // `@`.
     Guard,
-    // A guard and a blank.
+    // A guard and blanks.
     Blanks,
     // Names and a `.`.
     Dot,
     // Names, the last perhaps unfinished.
     Name,
-    // The blank after the head, or a comma.
+    // The head or a comma, and blanks behind it.
     Operand,
     // `_` as the first place of a pair.
     Nothing,
@@ -49,12 +49,12 @@ enum State {
     Part,
     // A selector, perhaps unfinished.
     Selector,
-    // The semicolon.
+    // The semicolon, and blanks behind it.
     End,
     Register(Role, Read),
 }
 
-// Both are made, and one is taken: there is nothing to do twice, and no branch.
+// Both states are at hand, and one is taken.
 fn pick(t: bool, a: State, b: State) -> State
     ensures { λ r. ⌜ r ≡ cond t a b ⌝ }
 {
@@ -118,6 +118,31 @@ fn register(k: Role, d: Read, b: u8) -> State
     }
 }
 
+// After a byte of a name.
+fn in_head(b: u8) -> State
+    ensures { λ r. ⌜ r ≡ inHead b ⌝ }
+{
+    let gap = pick(is_blank(b), State::Operand, State::Wrong);
+    named(b, State::Name, pick(b == b'.', State::Dot, gap))
+}
+
+// Where an operand begins.
+fn in_list(b: u8) -> State
+    ensures { λ r. ⌜ r ≡ inList b ⌝ }
+{
+    let place = pick(
+        b == b'_',
+        State::Nothing,
+        register(Role::First, Read::Nothing, b),
+    );
+    let sign = pick(
+        b == b'!',
+        State::Register(Role::Last, Read::Nothing),
+        place,
+    );
+    pick(is_blank(b), State::Operand, sign)
+}
+
 // What is read with one byte more.
 fn step(s: State, b: u8) -> State
     ensures { λ r. ⌜ r ≡ step s b ⌝ }
@@ -140,28 +165,8 @@ fn step(s: State, b: u8) -> State
             named(b, State::Name, State::Wrong),
         ),
         State::Dot => named(b, State::Name, State::Wrong),
-        State::Name => named(
-            b,
-            State::Name,
-            pick(
-                b == b'.',
-                State::Dot,
-                pick(is_blank(b), State::Operand, State::Wrong),
-            ),
-        ),
-        State::Operand => pick(
-            is_blank(b),
-            State::Operand,
-            pick(
-                b == b'!',
-                State::Register(Role::Last, Read::Nothing),
-                pick(
-                    b == b'_',
-                    State::Nothing,
-                    register(Role::First, Read::Nothing, b),
-                ),
-            ),
-        ),
+        State::Name => in_head(b),
+        State::Operand => in_list(b),
         State::Nothing => pick(b == b'|', State::Bar, State::Wrong),
         State::Bar => pick(
             b == b'_',
