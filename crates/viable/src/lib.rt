@@ -135,11 +135,7 @@ fn in_list(b: u8) -> State
         State::Nothing,
         register(Role::First, Read::Nothing, b),
     );
-    let sign = pick(
-        b == b'!',
-        State::Register(Role::Last, Read::Nothing),
-        place,
-    );
+    let sign = pick(b == b'!', State::Register(Role::Last, Read::Nothing), place);
     pick(is_blank(b), State::Operand, sign)
 }
 
