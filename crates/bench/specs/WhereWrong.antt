@@ -37,6 +37,22 @@ not-shaped-2 l p (refuses-at f x) = go (first-applies l 2 readingOrder f)
     go : Applies l 2 → ShapedLine l → ⊥
     go (shapeless z) s = z (s .tree) (s .shaped)
 
+-- what a line is held against is wide enough: every line of the right shape, and the names and the operands of every line that fits, register
+-- numbers and equal pairs aside
+pub shaped-in : (l : List ℕ) (t : LineTree) → Shaped l t → ShapedLine l
+shaped-in l t s = record { tree = t; shaped = s }
+
+pub names-in : (t : LineTree) (m : Record) → Fits t m → LegalNames (namesOf t)
+names-in t m f = record { instruction = m .instruction; row = record { names = f .spells .head; fit = f .modifiers } }
+
+pub operands-in : (t : LineTree) (m : Record) → Fits t m → LegalOperands (namesOf t) (operandsOf t)
+operands-in t m f = record {
+  instruction = m .instruction;
+  row = record { names = f .spells .head; fit = f .modifiers };
+  spells = f .spells .operands;
+  fit = f .operands;
+}
+
 -- For 3 the opcode
 pub record WrongOpcode (l : List ℕ) (p : ℕ) : Type 0 where
   pub tree : LineTree
@@ -161,7 +177,7 @@ place-5 l p (refuses-at f (at-operand t s g h k x)) = of-operand (record {
 pub record WrongRegister (l : List ℕ) (p : ℕ) : Type 0 where
   pub tree : LineTree
   pub shaped : Shaped l tree
-  -- those before it, from left to right, are in their files
+  -- those before it in the line's list are in their files
   pub first : FirstOutside (registersOf tree) p
   pub register : Place
   pub outside : fileSize register ≤ numberOf register

@@ -1,4 +1,4 @@
--- Lines and the answers that document 01 and T-05 give them: lines that are read, each refusal 1 to 7 with its place, and lines to which more than one
+-- Lines and the answers that document 01 and T-05 give them: lines that are read, each refusal 1 to 7, from 2 on with its place, and lines to which more than one
 -- applies. One list with one claim.
 use Prim.Native.Nat.{ℕ}
 use mathlib.Core.Path.{_≡_, refl, subst}
@@ -78,6 +78,7 @@ answered =
     ∷ gets (bytes "setp.lt.u32 _, %r1, %r2;") (refused-at 2 13)
     ∷ gets (bytes "selp.u32 %r1, 7, %r2, %p1;") (refused-at 2 14)
     ∷ gets (bytes "   ") (refused-at 2 3)
+    ∷ gets (bytes "@%p1") (refused-at 2 4)
     ∷ gets (bytes "selp.u32 %r40, %r1, %r2, %p1") (refused-at 2 28)
     -- however long: 36 bytes and 124 blanks, and the semicolon would be the 161st
     ∷ gets (bytes "vset4.u32.u32.lt %r10, %r1, %r2, %r0" ++ replicate 124 32) (refused-at 2 160)
@@ -87,6 +88,7 @@ answered =
     ∷ gets (bytes "setp.lo.ftz.u32 %p1, %r1, %r2;") (refused-at 4 8)
     ∷ gets (bytes "set.num.u32.u32 %r1, %r2, %r3;") (refused-at 4 12)
     ∷ gets (bytes "setp.lt.b32 %p1, %r1, %r2;") (refused-at 4 8)
+    ∷ gets (bytes "setp.eq.ftz.s32 %p1, %r1, %r2;") (refused-at 4 12)
     ∷ gets (bytes "vadd.u32.u32 %r1, %r2, %r3;") (refused-at 4 12)
     ∷ gets (bytes "slct.b32.ftz.f32 %r1, %r2, %r3, %r4;") (refused-at 4 9)
     -- for 5 the guard; the first operand that no legal list has after the ones before it; the end of the list
@@ -95,6 +97,7 @@ answered =
     ∷ gets (bytes "vadd.u32.u32.u32 %r1, %r1, %r1, %r1;") (refused-at 5 32)
     ∷ gets (bytes "selp.u32 %rd1, %r2, %r3, %p1;") (refused-at 5 9)
     ∷ gets (bytes "vset4.u32.u32.lt %r1.b01, %r2, %r3, %r4;") (refused-at 5 17)
+    ∷ gets (bytes "vset4.u32.u32.lt %r1.b3210, %p2, %r3, %r4;") (refused-at 5 28)
     ∷ gets (bytes "vadd.u32.u32.u32.add %r1.b0, %r2, %r3, %r4;") (refused-at 5 21)
     -- register numbers and equal pairs aside
     ∷ gets (bytes "setp.lt.and.u32 %p1, %r1, %r64, !%r1;") (refused-at 5 32)
@@ -103,6 +106,7 @@ answered =
     -- for 6 the first such register, guard first, for 7 the second place
     ∷ gets (bytes "@%p16 selp.u32 %r64, %r2, %r3, %p1;") (refused-at 6 1)
     ∷ gets (bytes "selp.u32 %r64, %r65, %r3, %p1;") (refused-at 6 9)
+    ∷ gets (bytes "selp.u32 %r1, %r64, %r65, %p16;") (refused-at 6 14)
     ∷ gets (bytes "selp.u32 %r1, %r2, %r3, %p16;") (refused-at 6 24)
     ∷ gets (bytes "@%p1 setp.lt.u32 %p1|%p1, %r1, %r2;") (refused-at 7 21)
     ∷ []

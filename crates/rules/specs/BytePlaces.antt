@@ -1,5 +1,5 @@
 -- Change request T-05, where a line went wrong: how far a list begins as some list of a set does, and where the pieces of a line stand. A place is
--- a number of bytes before it, 0 for the line's first.
+-- how many bytes of the line stand before it: 0 for the first.
 use Prim.Native.Nat.{ℕ, zero, suc, _+_, _≤_, _<_}
 use mathlib.Core.Bool.{true, false}
 use mathlib.Core.List.{List, [], _∷_, _++_}
@@ -57,7 +57,7 @@ operandStart o ds zero = 0
 operandStart o [] (suc k) = length (operandText o)
 operandStart o (d ∷ ds) (suc k) = toNextOperand o d + operandStart (d .operand) ds k
 
--- ==== the registers of a line, from left to right, each behind the place of its `%`
+-- ==== the registers of a line, from left to right: the byte place of its `%`, and the register (`Place` is a place in a file, Registers.antt)
 
 abbrev pub Register : Type 0
 Register = ℕ × Place

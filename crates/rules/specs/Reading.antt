@@ -149,10 +149,10 @@ pub data Placed (l : List ℕ) : ℕ → ℕ → Type 0 where
       → Placed l 5 (operandsStart t + operandStart (t .first) (t .others) k)
   -- for 6 the first such register
   at-register : (t : LineTree) → Shaped l t → {p : ℕ} → FirstOutside (registersOf t) p → Placed l 6 p
-  -- for 7 the second place; only d of setp may be a pair
+  -- for 7 the second place (of d: where 5 does not apply, only d of setp is a pair)
   at-second : (t : LineTree) → Shaped l t → (n : ℕ) → t .first ≡ pair (at (pred n)) (at (pred n)) → Placed l 7 (operandsStart t + length (registerText (pred n) ++ bytes "|"))
 
--- the others carry none
+-- 1 carries none
 abbrev pub placeless : List ℕ
 placeless = 1 ∷ []
 
