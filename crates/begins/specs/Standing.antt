@@ -6,7 +6,9 @@ use mathlib.Core.Bool.{Bool, true, false}
 use mathlib.Core.List.{List, [], _∷_, _++_, map, append-assoc, append-nil}
 use lib.ListN.{length, getD, length-append}
 use Rattle.signs.specs.Text.{bytes}
-use Rattle.record.specs.Registers.{Place, numberOf, fileSize}
+use Rattle.signs.specs.Lists.{Listed}
+use Rattle.signs.specs.Lists.Listed.{here as listed-here, later as listed-later}
+use Rattle.record.specs.Registers.{Place, word, double, pred, Inside, numberOf, fileSize}
 use Rattle.rules.specs.Shape.{Name, dotted, headText, registerText, Spot, at, nothing, spotText, OperandTree, inverted, pair, bare, part, operandText, guardText}
 use Rattle.rules.specs.Grammar.{LineTree, GuardTree, unguarded, guarded, guardTreeText, Divided, dividedText, lineText, namesOf, operandsOf, Shaped}
 use Rattle.rules.specs.BytePlaces.{guardStart, headStart, nameStart, operandsStart, toNextOperand, operandStart, Register, after, spotRegisters, operandRegisters, operandsRegisters, guardRegisters, registersOf, FirstOutside, here, later}
@@ -140,6 +142,90 @@ guard-each unguarded = none
 guard-each (guarded true q b) = each-then b (each-past (bytes "@!") (one q))
 guard-each (guarded false q b) = each-then b (each-past (bytes "@") (one q))
 
+-- ==== their places rise
+
+-- the places of a list rise from n on, and stay below m
+abbrev Rising : ℕ → ℕ → List Register → Type 0
+Rising m n [] = n ≤ m
+Rising m n (x ∷ rs) = (n ≤ x .0) × Rising m (suc (x .0)) rs
+
+rising-from : (rs : List Register) (m n k : ℕ) → k ≤ n → Rising m n rs → Rising m k rs
+rising-from [] m n k h x = omega arith
+rising-from (r ∷ rs) m n k h x = (omega (arith, x .0), x .1)
+
+rising-to : (rs : List Register) (m l n : ℕ) → m ≤ l → Rising m n rs → Rising l n rs
+rising-to [] m l n h x = omega arith
+rising-to (r ∷ rs) m l n h x = (x .0, rising-to rs m l (suc (r .0)) h (x .1))
+
+rising-append : (rs ss : List Register) (m n l : ℕ) → Rising m n rs → Rising l m ss → Rising l n (rs ++ ss)
+rising-append [] ss m n l x y = rising-from ss l m n x y
+rising-append (r ∷ rs) ss m n l x y = (x .0, rising-append rs ss m (suc (r .0)) l (x .1) y)
+
+rising-after : (a : ℕ) (rs : List Register) (m n : ℕ) → Rising m n rs → Rising (a + m) (a + n) (after a rs)
+rising-after a [] m n x = omega arith
+rising-after a (r ∷ rs) m n x = (omega (arith, x .0), rising-from (after a rs) (a + m) (a + suc (r .0)) (suc (a + r .0)) (omega arith) (rising-after a rs m (suc (r .0)) (x .1)))
+
+-- a text with its registers, moved on by a and followed by others
+within : (a : ℕ) (rs : List Register) (m k : ℕ) → a + m ≤ k → Rising m 0 rs → Rising k a (after a rs)
+within a rs m k h x = rising-to (after a rs) (a + m) k a h (rising-from (after a rs) (a + m) (a + 0) a (omega arith) (rising-after a rs m 0 x))
+
+some-text : (q : Place) → 0 < length (registerText q)
+some-text (word n) = omega arith
+some-text (double n) = omega arith
+some-text (pred n) = omega arith
+
+one-rising : (q : Place) → Rising (length (registerText q)) 0 ((0, q) ∷ [])
+one-rising q = (omega arith, some-text q)
+
+spot-rising : (u : Spot) → Rising (length (spotText u)) 0 (spotRegisters u)
+spot-rising (at q) = one-rising q
+spot-rising nothing = omega arith
+
+operand-rising : (o : OperandTree) → Rising (length (operandText o)) 0 (operandRegisters o)
+operand-rising (inverted q) =
+    rising-from (after 1 ((0, q) ∷ [])) (suc (length (registerText q))) 1 0 (omega arith)
+    (within 1 ((0, q) ∷ []) (length (registerText q)) (suc (length (registerText q))) (omega arith) (one-rising q))
+operand-rising (pair u v) =
+    let s : List ℕ = spotText u ++ bytes "|" in
+    let e : length (s ++ spotText v) ≡ length s + length (spotText v) = length-append s (spotText v) in
+    rising-append (spotRegisters u) (after (length s) (spotRegisters v)) (length s) 0 (length (s ++ spotText v))
+    (rising-to (spotRegisters u) (length (spotText u)) (length s) 0 (omega (arith, length-append (spotText u) (bytes "|"))) (spot-rising u))
+    (within (length s) (spotRegisters v) (length (spotText v)) (length (s ++ spotText v)) (omega arith) (spot-rising v))
+operand-rising (bare q) = one-rising q
+operand-rising (part q n) =
+    rising-to ((0, q) ∷ []) (length (registerText q)) (length (registerText q ++ bytes "." ++ n)) 0
+    (omega (arith, length-append (registerText q ++ bytes ".") n, length-append (registerText q) (bytes "."))) (one-rising q)
+
+operands-rising : (o : OperandTree) (ds : List Divided) → Rising (length (operandsText o ds)) 0 (operandsRegisters o ds)
+operands-rising o [] = rising-to (operandRegisters o) (length (operandText o)) (length (operandsText o [])) 0 (omega (arith, length-append (operandText o) [])) (operand-rising o)
+operands-rising o (d ∷ ds) =
+    let s : List ℕ = operandText o ++ d .before ++ bytes "," ++ d .after in
+    let t : List ℕ = operandsText (d .operand) ds in
+    let n : length (operandsText o (d ∷ ds)) ≡ length s + length t = ap length (sym (divided o d ds)) ∙ length-append s t in
+    let k : length s ≡ length (operandText o) + (length (d .before) + 1 + length (d .after)) = simp length-append (omega arith) in
+    rising-append (operandRegisters o) (after (length s) (operandsRegisters (d .operand) ds)) (length s) 0 (length (operandsText o (d ∷ ds)))
+    (rising-to (operandRegisters o) (length (operandText o)) (length s) 0 (omega arith) (operand-rising o))
+    (within (length s) (operandsRegisters (d .operand) ds) (length t) (length (operandsText o (d ∷ ds))) (omega arith) (operands-rising (d .operand) ds))
+
+guard-rising : (g : GuardTree) → Rising (length (guardTreeText g)) 0 (guardRegisters g)
+guard-rising unguarded = omega arith
+guard-rising (guarded true q b) =
+    rising-from (after 2 ((0, q) ∷ [])) (length ((bytes "@!" ++ registerText q) ++ b)) 2 0 (omega arith)
+    (within 2 ((0, q) ∷ []) (length (registerText q)) (length ((bytes "@!" ++ registerText q) ++ b)) (omega (arith, length-append (bytes "@!" ++ registerText q) b)) (one-rising q))
+guard-rising (guarded false q b) =
+    rising-from (after 1 ((0, q) ∷ [])) (length ((bytes "@" ++ registerText q) ++ b)) 1 0 (omega arith)
+    (within 1 ((0, q) ∷ []) (length (registerText q)) (length ((bytes "@" ++ registerText q) ++ b)) (omega (arith, length-append (bytes "@" ++ registerText q) b)) (one-rising q))
+
+line-rising : (t : LineTree) → Rising (operandsStart t + length (operandsText (t .first) (t .others))) 0 (registersOf t)
+line-rising t =
+    let g : ℕ = guardStart t in
+    let s : ℕ = operandsStart t in
+    let os = operandsRegisters (t .first) (t .others) in
+    let m : ℕ = length (operandsText (t .first) (t .others)) in
+    rising-append (after g (guardRegisters (t .guard))) (after s os) s 0 (s + m)
+    (rising-from (after g (guardRegisters (t .guard))) s g 0 (omega arith) (within g (guardRegisters (t .guard)) (length (guardTreeText (t .guard))) s (omega arith) (guard-rising (t .guard))))
+    (within s os m (s + m) (omega arith) (operands-rising (t .first) (t .others)))
+
 -- ==== the line
 
 abbrev behindOperands : LineTree → List ℕ
@@ -202,6 +288,20 @@ module _ (l : List ℕ) (t : LineTree) (shaped : Shaped l t) where
       go : {rs : List Register} → EachStands l rs → FirstOutside rs p → (q : Place) × (fileSize q ≤ numberOf q) × Stands l p (registerText q)
       go (more {q = q} x xs) (here h) = (q, h, x)
       go (more x xs) (later i o) = go xs o
+
+  -- every register that stands before it is in its file
+  pub before-outside : (p : ℕ) → FirstOutside (registersOf t) p → (n : ℕ) (q : Place) → Listed (n, q) (registersOf t) → n < p → Inside q
+  before-outside p o n q h i = go (registersOf t) _ 0 (line-rising t) o h
+    where
+      not-below : (rs : List Register) (m k : ℕ) → Rising m k rs → Listed (n, q) rs → k ≤ n
+      not-below (r ∷ rs) m k x (listed-here e) = let d : n ≡ r .0 = ap (λ (y : Register). y .0) e in omega (arith, x .0)
+      not-below (r ∷ rs) m k x (listed-later l) = let d = not-below rs m (suc (r .0)) (x .1) l in omega (arith, x .0)
+
+      go : (rs : List Register) (m k : ℕ) → Rising m k rs → FirstOutside rs p → Listed (n, q) rs → Inside q
+      go ((j, r) ∷ rs) m k x (here e) (listed-here f) = let d : n ≡ p = ap (λ (y : Register). y .0) f in absurd (omega arith)
+      go ((j, r) ∷ rs) m k x (here e) (listed-later l) = let d = not-below rs m (suc p) (x .1) l in absurd (omega arith)
+      go ((j, r) ∷ rs) m k x (later e o) (listed-here f) = subst Inside (sym (ap (λ (y : Register). y .1) f)) e
+      go ((j, r) ∷ rs) m k x (later e o) (listed-later l) = go rs m (suc j) (x .1) o l
 
   -- the second place of d, behind the first and `|`
   pub second-at : (q : Place) → t .first ≡ pair (at q) (at q) → Stands l (operandsStart t) (registerText q ++ bytes "|") × Stands l (operandsStart t + length (registerText q ++ bytes "|")) (registerText q)

@@ -8,17 +8,17 @@ use mathlib.Core.List.{List, [], _++_}
 use lib.ListN.{length, take, getD}
 use Rattle.signs.specs.Text.{bytes}
 use Rattle.signs.specs.Lists.{Listed}
-use Rattle.record.specs.Registers.{Place, pred, numberOf, fileSize}
+use Rattle.record.specs.Registers.{Place, pred, Inside, numberOf, fileSize}
 use Rattle.record.specs.declared.Guard.{Guard}
 use Rattle.record.specs.declared.Guard.the-variants.{Always, When}
 use Rattle.record.specs.declared.Instruction.{Instruction}
 use Rattle.record.specs.declared.Record.{Record}
 use Rattle.rules.specs.Shape.{headText, registerText, operandText, guardText}
 use Rattle.rules.specs.Grammar.{LineTree, GuardTree, unguarded, guarded, dividedText, namesOf, operandsOf, Shaped}
-use Rattle.rules.specs.BytePlaces.{Begins, ShapedLine, guardStart, headStart, nameStart, operandsStart, operandStart, registersOf, FirstOutside}
+use Rattle.rules.specs.BytePlaces.{Begins, ShapedLine, guardStart, headStart, nameStart, operandsStart, operandStart, registersOf}
 use Rattle.rules.specs.Reading.{GuardSpells, Spells, lineLimit, opcodes, Row, Fits, readingOrder, Applies, shapeless, unknown, rowless, unfit, LegalNames, LegalOperands, at-byte, at-opcode, at-modifier, at-guard, at-operand, at-register, at-second, Answers, refuses-at, refused-at}
 use Rattle.begins.specs.FirstWrongLaws.{before-begins, behind-begins-none}
-use Rattle.begins.specs.Standing.{Stands, names-end, operands-end, guard-at, name-at, operand-at, outside-at, second-at}
+use Rattle.begins.specs.Standing.{Stands, names-end, operands-end, guard-at, name-at, operand-at, outside-at, before-outside, second-at}
 use Rattle.read.specs.Laws.{spelled-by-all, row-by-all}
 use Rattle.read.specs.Answering.{first-applies, placed-one, short-line}
 
@@ -177,8 +177,8 @@ place-5 l p (refuses-at f (at-operand t s g h k x)) = of-operand (record {
 pub record WrongRegister (l : List ℕ) (p : ℕ) : Type 0 where
   pub tree : LineTree
   pub shaped : Shaped l tree
-  -- those before it in the line's list are in their files
-  pub first : FirstOutside (registersOf tree) p
+  -- every register that stands before it is in its file
+  pub before : (n : ℕ) (q : Place) → Listed (n, q) (registersOf tree) → n < p → Inside q
   pub register : Place
   pub outside : fileSize register ≤ numberOf register
   pub stands : Stands l p (registerText register)
@@ -186,7 +186,7 @@ pub record WrongRegister (l : List ℕ) (p : ℕ) : Type 0 where
 pub place-6 : (l : List ℕ) (p : ℕ) → Answers l (refused-at 6 p) → WrongRegister l p
 place-6 l p (refuses-at f (at-register t s o)) =
     let x = outside-at l t s p o in
-    record { tree = t; shaped = s; first = o; register = x .0; outside = x .1; stands = x .2 }
+    record { tree = t; shaped = s; before = before-outside l t s p o; register = x .0; outside = x .1; stands = x .2 }
 
 -- for 7 the second place: it stands at p, behind the same predicate and `|`
 pub record WrongPair (l : List ℕ) (p : ℕ) : Type 0 where
