@@ -1,6 +1,6 @@
 /*
  * The listing program of the PTX line bench, worked out from document 01 and
- * requests T-01, T-02 and T-05.
+ * requests T-01, T-02, T-05 and T-06.
  *
  * It reads a listing from standard input, reads each line into a record,
  * executes the record, and writes one answer per line and, at the end, the
@@ -88,6 +88,7 @@ enum {
     INPUT_MOST = 65536,
     LINE_MOST = 160,
     R_COUNT = 64,
+    RS_COUNT = 32,
     RD_COUNT = 32,
     P_COUNT = 16
 };
@@ -120,7 +121,7 @@ typedef enum {
     W_VSET2, W_VADD2, W_VSUB2, W_VAVRG2, W_VABSDIFF2, W_VMIN2, W_VMAX2,
     W_VSET4, W_VADD4, W_VSUB4, W_VAVRG4, W_VABSDIFF4, W_VMIN4, W_VMAX4,
     W_SET, W_SETP, W_SELP, W_SLCT,
-    W_U32, W_S32, W_F32, W_B32, W_B64, W_U64, W_S64, W_F64,
+    W_U32, W_S32, W_F32, W_B32, W_B64, W_U64, W_S64, W_F64, W_B16, W_U16, W_S16,
     W_EQ, W_NE, W_LT, W_LE, W_GT, W_GE,
     W_LO, W_LS, W_HI, W_HS,
     W_EQU, W_NEU, W_LTU, W_LEU, W_GTU, W_GEU, W_NUM, W_NAN,
@@ -142,6 +143,7 @@ static const char *const spelling[WORD_COUNT] = {
     [W_SET] = "set", [W_SETP] = "setp", [W_SELP] = "selp", [W_SLCT] = "slct",
     [W_U32] = "u32", [W_S32] = "s32", [W_F32] = "f32", [W_B32] = "b32",
     [W_B64] = "b64", [W_U64] = "u64", [W_S64] = "s64", [W_F64] = "f64",
+    [W_B16] = "b16", [W_U16] = "u16", [W_S16] = "s16",
     [W_EQ] = "eq", [W_NE] = "ne", [W_LT] = "lt", [W_LE] = "le",
     [W_GT] = "gt", [W_GE] = "ge",
     [W_LO] = "lo", [W_LS] = "ls", [W_HI] = "hi", [W_HS] = "hs",
@@ -156,8 +158,9 @@ static bool is_opcode(Word w)     { return w >= W_VADD && w <= W_SLCT; }
 static bool is_simd(Word w)       { return w >= W_VSET2 && w <= W_VMAX4; }
 static bool is_video_type(Word w) { return w == W_U32 || w == W_S32; }
 static bool is_set_dtype(Word w)  { return w >= W_U32 && w <= W_F32; }
-static bool is_type(Word w)       { return w >= W_U32 && w <= W_F64; }
+static bool is_type(Word w)       { return w >= W_U32 && w <= W_S16; }
 static bool is_wide(Word w)       { return w >= W_B64 && w <= W_F64; }
+static bool is_half(Word w)       { return w >= W_B16 && w <= W_S16; }
 static bool is_cmp6(Word w)       { return w >= W_EQ && w <= W_GE; }
 static bool is_op2(Word w)        { return w >= W_ADD && w <= W_MAX; }
 static bool is_bool_op(Word w)    { return w >= W_AND && w <= W_XOR; }
@@ -169,11 +172,11 @@ static unsigned lanes_of(Word op) { return op <= W_VMAX2 ? 2 : 4; }
 static bool compares(Word cmp, Word stype)
 {
     switch (stype) {
-    case W_B32: case W_B64:
+    case W_B16: case W_B32: case W_B64:
         return cmp == W_EQ || cmp == W_NE;
-    case W_S32: case W_S64:
+    case W_S16: case W_S32: case W_S64:
         return is_cmp6(cmp);
-    case W_U32: case W_U64:
+    case W_U16: case W_U32: case W_U64:
         return cmp >= W_EQ && cmp <= W_HS;
     case W_F32: case W_F64:
         return is_cmp6(cmp) || (cmp >= W_EQU && cmp <= W_NAN);
@@ -235,18 +238,43 @@ static Key key_of(const Byte *name, size_t length)
 }
 
 /* ------------------------------------------------------------------------
- * The shape of a line.  Each reader takes the place where it starts and
- * returns the place behind what it read, or NULL.  A line is always followed
- * by a line feed in memory.  No reader steps over a line feed, so none runs
- * past the line.
+ * The lent files, in the order in which they are lent and printed.
  * ------------------------------------------------------------------------ */
 
-typedef enum { FILE_R, FILE_RD, FILE_P, SINK } File;
+typedef enum { FILE_R, FILE_RS, FILE_RD, FILE_P, FILES, SINK = FILES } File;
 
 typedef struct {
     File file;          /* SINK for `_` */
     unsigned number;
 } Place;
+
+static const struct {
+    const char *name;
+    Byte letter;            /* in SAMPLES.md; the capital for the length */
+    unsigned places;
+    unsigned digits;        /* hexadecimal ones, of a value that is shown */
+    uint32_t step;          /* at the start place N holds N times this */
+} lent[FILES] = {
+    [FILE_R]  = { "%r",  'r', R_COUNT,  8,  UINT32_C(0x01010101) },
+    [FILE_RS] = { "%rs", 'h', RS_COUNT, 4,  1 },
+    [FILE_RD] = { "%rd", 'd', RD_COUNT, 16, 1 },
+    [FILE_P]  = { "%p",  'p', P_COUNT,  1,  0 }
+};
+
+/* The file of the operands that go by width. */
+static File file_of(Word type)
+{
+    return is_wide(type) ? FILE_RD : is_half(type) ? FILE_RS : FILE_R;
+}
+
+static uint64_t start_value(File file, unsigned n) { return (uint64_t)n * lent[file].step; }
+
+/* ------------------------------------------------------------------------
+ * The shape of a line.  Each reader takes the place where it starts and
+ * returns the place behind what it read, or NULL.  A line is always followed
+ * by a line feed in memory.  No reader steps over a line feed, so none runs
+ * past the line.
+ * ------------------------------------------------------------------------ */
 
 typedef struct {
     const Byte *at;
@@ -304,23 +332,21 @@ static const Byte *read_name(const Byte *p)
     return p > start ? p : NULL;
 }
 
+/* The name of a file and the digit behind it, which tells `%r` from `%rs` and `%rd`. */
+static const Byte *read_file(const Byte *p, File *file)
+{
+    for (*file = FILE_R; *file < FILES; ++*file) {
+        size_t length = strlen(lent[*file].name);
+        if (strncmp((const char *)p, lent[*file].name, length) == 0 && is_digit(p[length]))
+            return p + length;
+    }
+    return NULL;
+}
+
 static const Byte *read_register(const Byte *p, Place *place)
 {
-    if (p[0] != '%')
-        return NULL;
-    if (p[1] == 'p') {
-        place->file = FILE_P;
-        p += 2;
-    } else if (p[1] == 'r' && p[2] == 'd') {
-        place->file = FILE_RD;
-        p += 3;
-    } else if (p[1] == 'r') {
-        place->file = FILE_R;
-        p += 2;
-    } else {
-        return NULL;
-    }
-    if (!is_digit(*p))
+    p = read_file(p, &place->file);
+    if (p == NULL)
         return NULL;
     unsigned number = (unsigned)(*p++ - '0');
     if (number != 0)
@@ -707,13 +733,13 @@ static bool read_record_operands(Line *line, Record *rec)
 
     switch (rec->op) {
     case W_SET: case W_SETP:
-        file = is_wide(rec->atype) ? FILE_RD : FILE_R;
+        file = file_of(rec->atype);
         if (!is_bare(a, file) || !is_bare(b, file) || !read_bool_operand(line, rec))
             return false;
         return rec->op == W_SET ? is_bare(d, FILE_R) : read_setp_places(d, rec);
 
     case W_SELP: case W_SLCT:
-        file = is_wide(rec->dtype) ? FILE_RD : FILE_R;
+        file = file_of(rec->dtype);
         return c != NULL && is_bare(d, file) && is_bare(a, file) && is_bare(b, file) &&
                is_bare(c, rec->op == W_SELP ? FILE_P : FILE_R);
 
@@ -734,12 +760,7 @@ static bool read_record_operands(Line *line, Record *rec)
 
 static bool number_fits(Place place)
 {
-    switch (place.file) {
-    case FILE_R:  return place.number < R_COUNT;
-    case FILE_RD: return place.number < RD_COUNT;
-    case FILE_P:  return place.number < P_COUNT;
-    default:      return true;
-    }
+    return place.file == SINK || place.number < lent[place.file].places;
 }
 
 static bool numbers_fit(const Line *line)
@@ -833,7 +854,7 @@ static bool follow_register(Beginning *b, Byte next)
     case PERCENT:
         return (next == 'r' && spell(b, PERCENT_R)) || (next == 'p' && spell(b, FILE_NAMED));
     case PERCENT_R:
-        if (next == 'd')
+        if (next == 's' || next == 'd')
             return spell(b, FILE_NAMED);
         return is_digit(next) && spell(b, next == '0' ? ZERO : ONE_DIGIT);
     case FILE_NAMED:
@@ -922,7 +943,7 @@ static size_t place_of_shape(const Byte *p, size_t length)
  * rows of the table, and the line is held against each.
  * ------------------------------------------------------------------------ */
 
-enum { MODIFIERS_MOST = 5, LISTS_MOST = 5000 };      /* 1,600 are legal; opcodes of one row share theirs */
+enum { MODIFIERS_MOST = 5, LISTS_MOST = 5000 };      /* 1,900 are legal; opcodes of one row share theirs */
 
 static bool is_sat(Word w)    { return w == W_SAT; }
 static bool is_ftz(Word w)    { return w == W_FTZ; }
@@ -1036,7 +1057,7 @@ static const Byte *place_of_modifier(const Line *line)
  * ------------------------------------------------------------------------ */
 
 typedef enum {
-    AN_R, AN_RD, A_P,       /* bare */
+    AN_R, AN_RS, AN_RD, A_P,    /* bare */
     P_OR_NOT,               /* with optional `!` */
     SETP_PLACES,
     R_WITH_PART,            /* with a selector of scalar video */
@@ -1057,6 +1078,7 @@ static bool is_as_wanted(Operand o, Wanted wanted, Word op)
     Record any;
     switch (wanted) {
     case AN_R:            return is_bare(&o, FILE_R);
+    case AN_RS:           return is_bare(&o, FILE_RS);
     case AN_RD:           return is_bare(&o, FILE_RD);
     case A_P:             return is_bare(&o, FILE_P);
     case P_OR_NOT:        return o.form != PAIR && o.first.file == FILE_P && o.selector == 0;
@@ -1070,7 +1092,7 @@ static bool is_as_wanted(Operand o, Wanted wanted, Word op)
 
 static Wanted by_width(Word type)
 {
-    return is_wide(type) ? AN_RD : AN_R;
+    return is_wide(type) ? AN_RD : is_half(type) ? AN_RS : AN_R;
 }
 
 /* The legal lists under the head of `rec`; returns how many. */
@@ -1194,12 +1216,37 @@ static Refusal read_line(const Byte *p, size_t length, Line *line, Record *rec)
 
 typedef struct {
     uint32_t r[R_COUNT];
+    uint16_t rs[RS_COUNT];
     uint64_t rd[RD_COUNT];
     Byte p[P_COUNT];
 } Machine;
 
-static uint32_t start_r(unsigned n) { return n * UINT32_C(0x01010101); }
-static uint64_t start_rd(unsigned n) { return n; }
+static uint64_t value_at(const Machine *m, File file, unsigned n)
+{
+    switch (file) {
+    case FILE_R:  return m->r[n];
+    case FILE_RS: return m->rs[n];
+    case FILE_RD: return m->rd[n];
+    default:      return m->p[n];
+    }
+}
+
+static void set_register(Machine *m, File file, unsigned n, uint64_t value)
+{
+    switch (file) {
+    case FILE_R:  m->r[n] = (uint32_t)value; break;
+    case FILE_RS: m->rs[n] = (uint16_t)value; break;
+    case FILE_RD: m->rd[n] = value; break;
+    default:      m->p[n] = (Byte)value; break;
+    }
+}
+
+static void start_machine(Machine *m)
+{
+    for (int file = FILE_R; file < FILES; file++)
+        for (unsigned n = 0; n < lent[file].places; n++)
+            set_register(m, (File)file, n, start_value((File)file, n));
+}
 
 /* How two values stand to each other; each comparison is the set it accepts. */
 enum { LESS = 1, EQUAL = 2, GREATER = 4, UNORDERED = 8 };
@@ -1253,7 +1300,7 @@ static int64_t number_of(uint32_t x, unsigned width, Word type)
 {
     int64_t sign = INT64_C(1) << (width - 1);
     int64_t n = x;
-    return type == W_S32 && n >= sign ? n - 2 * sign : n;
+    return (type == W_S32 || type == W_S16) && n >= sign ? n - 2 * sign : n;
 }
 
 static uint32_t low_bits(unsigned width)
@@ -1361,6 +1408,9 @@ static bool comparison(const Machine *m, const Record *rec)
             order = order_unsigned(x ^ sign64, y ^ sign64);
         else
             order = order_unsigned(x, y);
+    } else if (is_half(rec->atype)) {
+        uint16_t x = m->rs[rec->a], y = m->rs[rec->b];
+        order = order_signed(number_of(x, 16, rec->atype), number_of(y, 16, rec->atype));
     } else {
         uint32_t x = m->r[rec->a];
         uint32_t y = m->r[rec->b];
@@ -1426,10 +1476,11 @@ static bool execute(Machine *m, const Record *rec)
         bool pick_a = rec->op == W_SELP ? m->p[rec->c] == 1
                                         : at_or_above_zero(m->r[rec->c], rec->btype, rec->ftz);
         unsigned from = pick_a ? rec->a : rec->b;
-        if (is_wide(rec->dtype))
-            m->rd[rec->d] = m->rd[from];
-        else
-            m->r[rec->d] = m->r[from];
+        switch (file_of(rec->dtype)) {
+        case FILE_RS: m->rs[rec->d] = m->rs[from]; break;
+        case FILE_RD: m->rd[rec->d] = m->rd[from]; break;
+        default:      m->r[rec->d] = m->r[from]; break;
+        }
         break;
     }
 
@@ -1529,34 +1580,30 @@ static void put_refusal(Refusal refusal, const Line *line)
     }
 }
 
-static void put_register(const char *file, unsigned number)
+static void put_operand(File file, unsigned number)
 {
-    begin_line();
-    put_string(file);
+    put_string(lent[file].name);
     put_decimal(number);
-    put_byte(' ');
+}
+
+static void put_changed_places_of(const Machine *m, File file)
+{
+    for (unsigned n = 0; n < lent[file].places; n++) {
+        uint64_t value = value_at(m, file, n);
+        if (value == start_value(file, n))
+            continue;
+        begin_line();
+        put_operand(file, n);
+        put_byte(' ');
+        put_hex(value, lent[file].digits);
+        put_byte('\n');
+    }
 }
 
 static void put_changed_registers(const Machine *m)
 {
-    for (unsigned n = 0; n < R_COUNT; n++)
-        if (m->r[n] != start_r(n)) {
-            put_register("%r", n);
-            put_hex(m->r[n], 8);
-            put_byte('\n');
-        }
-    for (unsigned n = 0; n < RD_COUNT; n++)
-        if (m->rd[n] != start_rd(n)) {
-            put_register("%rd", n);
-            put_hex(m->rd[n], 16);
-            put_byte('\n');
-        }
-    for (unsigned n = 0; n < P_COUNT; n++)
-        if (m->p[n] != 0) {
-            put_register("%p", n);
-            put_decimal(m->p[n]);
-            put_byte('\n');
-        }
+    for (int file = FILE_R; file < FILES; file++)
+        put_changed_places_of(m, (File)file);
 }
 
 /* ------------------------------------------------------------------------
@@ -1599,11 +1646,7 @@ static int listing_program(void)
     input[length] = '\n';       /* ends a last line without its line feed */
 
     fill_dictionary();
-    for (unsigned n = 0; n < R_COUNT; n++)
-        machine.r[n] = start_r(n);
-    for (unsigned n = 0; n < RD_COUNT; n++)
-        machine.rd[n] = start_rd(n);
-
+    start_machine(&machine);
     run_listing(input, input + length, &machine);
     put_changed_registers(&machine);
     flush_output();
@@ -1624,19 +1667,10 @@ int main(void)
  * sets all to zero; any other line is executed and shown with what it wrote.
  * ------------------------------------------------------------------------ */
 
-static void set_register(Machine *m, Place place, uint64_t value)
-{
-    switch (place.file) {
-    case FILE_R:  m->r[place.number] = (uint32_t)value; break;
-    case FILE_RD: m->rd[place.number] = value; break;
-    default:      m->p[place.number] = (Byte)value; break;
-    }
-}
-
 /* The greatest value that a register of the file holds; a predicate is a byte. */
 static uint64_t greatest_value(File file)
 {
-    return file == FILE_R ? UINT32_MAX : file == FILE_RD ? UINT64_MAX : UINT8_MAX;
+    return file == FILE_P ? UINT8_MAX : UINT64_MAX >> (64 - 4 * lent[file].digits);
 }
 
 /* 1 to 16 hexadecimal digits in capitals; NULL if there are none, or more. */
@@ -1662,7 +1696,7 @@ static bool read_setting(const Byte *p, Machine *m)
     p = read_hex(p + 1, &value);
     if (p == NULL || *p != '\n' || value > greatest_value(place.file))
         return false;
-    set_register(m, place, value);
+    set_register(m, place.file, place.number, value);
     return true;
 }
 
@@ -1674,12 +1708,12 @@ static bool has_byte_over_1(const Byte *p)
     return false;
 }
 
-static void put_value(const char *file, unsigned number, uint64_t value, unsigned digits)
+static void put_destination(const Machine *m, File file, unsigned number)
 {
-    put_string(file);
-    put_decimal(number);
+    put_byte(' ');
+    put_operand(file, number);
     put_byte('=');
-    put_hex(value, digits);
+    put_hex(value_at(m, file, number), lent[file].digits);
 }
 
 /* Every register that the record wrote, in the order of its operands. */
@@ -1687,13 +1721,13 @@ static void put_destinations(const Machine *m, const Record *rec)
 {
     if (rec->op == W_SETP) {
         if (rec->p != DROPPED)
-            put_value(" %p", rec->p, m->p[rec->p], 1);
+            put_destination(m, FILE_P, rec->p);
         if (rec->q != DROPPED)
-            put_value(" %p", rec->q, m->p[rec->q], 1);
-    } else if ((rec->op == W_SELP || rec->op == W_SLCT) && is_wide(rec->dtype)) {
-        put_value(" %rd", rec->d, m->rd[rec->d], 16);
+            put_destination(m, FILE_P, rec->q);
+    } else if (rec->op == W_SELP || rec->op == W_SLCT) {
+        put_destination(m, file_of(rec->dtype), rec->d);
     } else {
-        put_value(" %r", rec->d, m->r[rec->d], 8);
+        put_destination(m, FILE_R, rec->d);
     }
 }
 
@@ -1837,8 +1871,10 @@ typedef struct {
 } Sample;
 
 static const Word type_words[] = {
-    W_B32, W_B64, W_U32, W_U64, W_S32, W_S64, W_F32, W_F64
+    W_B32, W_B64, W_U32, W_U64, W_S32, W_S64, W_F32, W_F64, W_B16, W_U16, W_S16
 };
+
+static const File file_choices[] = { FILE_R, FILE_RD, FILE_RS };
 
 /* b0 to b3, h0, h1, none. */
 static const Part part_choices[] = {
@@ -1848,9 +1884,9 @@ static const Part part_choices[] = {
 static bool take_bool(void)             { return take_number(1) == 1; }
 static unsigned take_register(void)     { return take_number(999); }
 static Word take_video_type(void)       { return (Word)(W_U32 + take_number(1)); }
-static Word take_type(void)             { return type_words[take_number(7)]; }
+static Word take_type(void)             { return type_words[take_number(10)]; }
 static Word take_cmp(Word last)         { return (Word)(W_EQ + take_number((unsigned)(last - W_EQ))); }
-static File take_file(void)             { return take_bool() ? FILE_RD : FILE_R; }
+static File take_file(void)             { return file_choices[take_number(2)]; }
 
 static void take_guard(Record *rec)
 {
@@ -2033,7 +2069,7 @@ static bool legal_lanes(const Record *rec)
 /* a and b of the file that the type has. */
 static bool legal_sources(const Sample *s, Word type)
 {
-    File file = is_wide(type) ? FILE_RD : FILE_R;
+    File file = file_of(type);
     return s->a_file == file && in_file(file, s->rec.a) &&
            s->b_file == file && in_file(file, s->rec.b);
 }
@@ -2056,7 +2092,7 @@ static bool legal_places(const Record *rec)
 static bool legal_choice(const Sample *s)
 {
     const Record *rec = &s->rec;
-    return s->d_file == (is_wide(rec->dtype) ? FILE_RD : FILE_R) &&
+    return s->d_file == file_of(rec->dtype) &&
            in_file(s->d_file, rec->d) && legal_sources(s, rec->dtype) &&
            in_file(rec->op == W_SELP ? FILE_P : FILE_R, rec->c);
 }
@@ -2084,13 +2120,6 @@ static bool legal(const Sample *s)
 /* ------------------------------------------------------------------------
  * Samples: the standard line of a legal record
  * ------------------------------------------------------------------------ */
-
-static void put_operand(File file, unsigned number)
-{
-    static const char *const names[] = { "%r", "%rd", "%p" };
-    put_string(names[file]);
-    put_decimal(number);
-}
 
 /* An operand behind another one. */
 static void put_next(File file, unsigned number)
@@ -2319,10 +2348,8 @@ enum { VALUES_MOST = 32, OPEN_MOST = 2 };
 
 /* Lent files, with one place more than they should have. */
 typedef struct {
-    uint32_t r[R_COUNT + 1];
-    uint64_t rd[RD_COUNT + 1];
-    Byte p[P_COUNT + 1];
-    unsigned length[3];         /* by File */
+    uint64_t value[FILES][R_COUNT + 1];
+    unsigned length[FILES];
 } Files;
 
 typedef struct {
@@ -2334,58 +2361,60 @@ typedef struct {
 static uint64_t values[VALUES_MOST];    /* of the last line `V` */
 static unsigned value_count;
 
-static const unsigned usual_length[3] = { R_COUNT, RD_COUNT, P_COUNT };
-
 static void start_files(Files *files)
 {
-    for (unsigned n = 0; n <= R_COUNT; n++)
-        files->r[n] = start_r(n);
-    for (unsigned n = 0; n <= RD_COUNT; n++)
-        files->rd[n] = start_rd(n);
-    memset(files->p, 0, sizeof files->p);
-    memcpy(files->length, usual_length, sizeof usual_length);
+    for (int file = FILE_R; file < FILES; file++) {
+        files->length[file] = lent[file].places;
+        for (unsigned n = 0; n <= lent[file].places; n++)
+            files->value[file][n] = start_value((File)file, n);
+    }
 }
 
+static bool usual_lengths(const Files *files)
+{
+    for (int file = FILE_R; file < FILES; file++)
+        if (files->length[file] != lent[file].places)
+            return false;
+    return true;
+}
+
+/* As much of the value as the register holds. */
 static void set_place(Files *files, Place place, uint64_t value)
 {
-    switch (place.file) {
-    case FILE_R:  files->r[place.number] = (uint32_t)value; break;
-    case FILE_RD: files->rd[place.number] = value; break;
-    default:      files->p[place.number] = (Byte)value; break;
-    }
+    files->value[place.file][place.number] = value & greatest_value(place.file);
 }
 
 typedef enum { RUN_DONE, RUN_SKIPPED, RUN_REFUSED } Run;
 
 static Run execute_record(const Sample *s, Files *files, Refusal *refusal)
 {
+    Machine m;
+    for (int file = FILE_R; file < FILES; file++)
+        for (unsigned n = 0; n < lent[file].places; n++)
+            set_register(&m, (File)file, n, files->value[file][n]);
     *refusal = !legal(s) ? NOT_LEGAL
-             : memcmp(files->length, usual_length, sizeof usual_length) != 0 ? BAD_LENGTHS
-             : has_byte_over_1(files->p) ? BAD_PREDICATE : ACCEPTED;
+             : !usual_lengths(files) ? BAD_LENGTHS
+             : has_byte_over_1(m.p) ? BAD_PREDICATE : ACCEPTED;
     if (*refusal != ACCEPTED)
         return RUN_REFUSED;
-    Machine m;
-    memcpy(m.r, files->r, sizeof m.r);
-    memcpy(m.rd, files->rd, sizeof m.rd);
-    memcpy(m.p, files->p, sizeof m.p);
     bool done = execute(&m, &s->rec);
-    memcpy(files->r, m.r, sizeof m.r);
-    memcpy(files->rd, m.rd, sizeof m.rd);
-    memcpy(files->p, m.p, sizeof m.p);
+    for (int file = FILE_R; file < FILES; file++)
+        for (unsigned n = 0; n < lent[file].places; n++)
+            files->value[file][n] = value_at(&m, (File)file, n);
     return done ? RUN_DONE : RUN_SKIPPED;
 }
 
 static void put_changed_places(const Files *before, const Files *after)
 {
-    for (unsigned n = 0; n <= R_COUNT; n++)
-        if (after->r[n] != before->r[n])
-            put_value("r", n, after->r[n], 8);
-    for (unsigned n = 0; n <= RD_COUNT; n++)
-        if (after->rd[n] != before->rd[n])
-            put_value("d", n, after->rd[n], 16);
-    for (unsigned n = 0; n <= P_COUNT; n++)
-        if (after->p[n] != before->p[n])
-            put_value("p", n, after->p[n], 1);
+    for (int file = FILE_R; file < FILES; file++)
+        for (unsigned n = 0; n <= lent[file].places; n++) {
+            if (after->value[file][n] == before->value[file][n])
+                continue;
+            put_byte(lent[file].letter);
+            put_decimal(n);
+            put_byte('=');
+            put_hex(after->value[file][n], lent[file].digits);
+        }
 }
 
 static void put_run(const Sample *s, const Files *before)
@@ -2424,7 +2453,7 @@ static void take_place(File file, Setup *setup)
 {
     Place place = { file, 0 };
     uint64_t value;
-    const Byte *p = take_number_at(token + 1, usual_length[file], &place.number);
+    const Byte *p = take_number_at(token + 1, lent[file].places, &place.number);
     if (*p == '=') {
         p = read_hex(p + 1, &value);
         if (p == NULL || value > greatest_value(file))
@@ -2441,7 +2470,7 @@ static void take_place(File file, Setup *setup)
 
 static void take_length(File file, Setup *setup)
 {
-    if (*take_number_at(token + 1, usual_length[file] + 1, &setup->files.length[file]) != '\n')
+    if (*take_number_at(token + 1, lent[file].places + 1, &setup->files.length[file]) != '\n')
         bad_data("no length");
 }
 
@@ -2451,16 +2480,16 @@ static void take_setup(Setup *setup)
     setup->opened = 0;
     start_files(&setup->files);
     while (behind != '\n') {
+        File file = FILE_R;
         take_token();
-        switch (token[0]) {
-        case 'r': take_place(FILE_R, setup); break;
-        case 'd': take_place(FILE_RD, setup); break;
-        case 'p': take_place(FILE_P, setup); break;
-        case 'R': take_length(FILE_R, setup); break;
-        case 'D': take_length(FILE_RD, setup); break;
-        case 'P': take_length(FILE_P, setup); break;
-        default:  bad_data("no token of a line X");
-        }
+        while (file < FILES && (token[0] | 0x20) != lent[file].letter)
+            file++;
+        if (file == FILES)
+            bad_data("no token of a line X");
+        if (token[0] == lent[file].letter)
+            take_place(file, setup);
+        else
+            take_length(file, setup);
     }
 }
 

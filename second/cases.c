@@ -14,7 +14,7 @@
 
 #define COUNT(array) ((unsigned)(sizeof(array) / sizeof(array)[0]))
 
-enum { TYPES = 8, CMPS = 18, CMP6 = 6, OPS = 6, FORMS = 10, B32 = 0, F32 = 6, VALUES = 18 };
+enum { TYPES = 8, /* and those of 16 bits */ B16 = 8, U16, S16, ALL_TYPES, CMPS = 18, CMP6 = 6, OPS = 6, FORMS = 10, B32 = 0, F32 = 6, VALUES = 18 };
 
 /* Zeros, subnormals, least normals, ones, the greatest finite, infinities, NaNs; also least and greatest wholes. */
 static const uint64_t WORDS[VALUES] = {
@@ -109,10 +109,15 @@ static unsigned predicate(unsigned k)
     return number[(turn + k) % COUNT(number)];
 }
 
-static bool is_wide(unsigned type) { return type % 2 == 1; }
+static bool is_half(unsigned type) { return type >= B16; }
+static bool is_wide(unsigned type) { return !is_half(type) && type % 2 == 1; }
+
+/* The number of the type's file, and its letter. */
+static unsigned file_of(unsigned type) { return is_half(type) ? 2 : is_wide(type); }
+static char letter_of(unsigned type) { return "rdh"[file_of(type)]; }
 
 /* A register of the type's file. */
-static unsigned of_type(unsigned type, unsigned k) { return is_wide(type) ? wide_number(k) : word(k); }
+static unsigned of_type(unsigned type, unsigned k) { return file_of(type) == 0 ? word(k) : wide_number(k); }
 
 /* No guard, `@`, `@!`. */
 static const char *guard(void)
@@ -176,13 +181,13 @@ static void sources(unsigned ftz, unsigned type, unsigned a_file, unsigned a, un
 /* Sources 0 and 1 of the type's file. */
 static void usual_sources(unsigned ftz, unsigned type)
 {
-    sources(ftz, type, is_wide(type), 0, is_wide(type), 1);
+    sources(ftz, type, file_of(type), 0, file_of(type), 1);
 }
 
 /* CmpOp by stype. */
 static bool compares(unsigned cmp, unsigned type)
 {
-    switch (type / 2) {
+    switch (is_half(type) ? type - B16 : type / 2) {
     case 0:  return cmp < 2;
     case 1:  return cmp < 10;
     case 2:  return cmp < 6;
@@ -215,9 +220,14 @@ static const Base BASES[] = {
     { "0 0", "7 1 1 1 0 1 0 0 d 2 a 0 3 0 0 b 2 1 0 0 c" }, /* vsub2 with sat */
     { "0 0", "7 3 0 0 1 0 1 1 d 11 a 0 1 2 3 b 4 5 6 7 c" },    /* vabsdiff4 with add */
     { "2 4", "7 2 1 0 1 1 1 0 d 15 a 7 0 5 2 b 4 4 1 3 c" },    /* vavrg4, guarded */
+    { "0 0", "3 0 d 2 1 0 c 0 9 2 a 2 b" },                 /* set on halves */
+    { "0 0", "4 2 d 0 3 3 1 c 0 10 2 a 2 b" },              /* setp on halves */
+    { "2 4", "5 8 2 d 2 a 2 b c" },                         /* selp on halves, guarded */
+    { "0 0", "6 0 10 2 d 2 a 2 b c" },                      /* slct on halves */
+    { "0 0", "6 2 9 2 d 2 a 2 b c" },                       /* slct on halves with ftz */
 };
 
-enum { OLDER_BASES = 14 };      /* the others are of request T-01 */
+enum { OLDER_BASES = 14, LANE_BASES = 17 };     /* those from the first on are of request T-01, from the second on of T-06 */
 
 /* The base with its letters d, a, b, c changed to numbers. */
 static void base(const char *guarded, const Base *of, const unsigned dabc[4])
@@ -237,11 +247,11 @@ static void base(const char *guarded, const Base *of, const unsigned dabc[4])
 /* ---- legality ---- */
 
 /* set and setp, without and with ftz, by type and comparison */
-static void legality_of_comparisons(void)
+static void legality_of_comparisons(unsigned from, unsigned to)
 {
     for (unsigned setp = 0; setp < 2; setp++)
         for (unsigned ftz = 0; ftz < 2; ftz++)
-            for (unsigned type = 0; type < TYPES; type++)
+            for (unsigned type = from; type < to; type++)
                 for (unsigned cmp = 0; cmp < CMPS; cmp++) {
                     begin(setp ? "0 0 4 0 1 0 %u" : "0 0 3 0 3 %u", cmp);
                     boolean(0, 0);
@@ -429,42 +439,49 @@ static void written_lanes(bool arithmetic)
     }
 }
 
-/* set and setp by type and comparison, legal or not, f32 also with ftz; BoolOp and places in turn */
+/* set or setp of a type by comparison, legal or not; BoolOp and places in turn */
+static void written_comparisons_of(bool setp, unsigned ftz, unsigned type)
+{
+    for (unsigned cmp = 0; cmp < CMPS; cmp++) {
+        unsigned form = turn % 4;
+        if (setp)
+            begin("%s 4 %u %u %u %u", guard(), form, form == 3 ? 0 : predicate(0),
+                  form % 2 == 1 ? predicate(1) : 0, cmp);
+        else
+            begin("%s 3 %u %u %u", guard(), turn / 3 % 3, word(0), cmp);
+        boolean(turn % BOOLS, predicate(2));
+        sources(ftz, type, file_of(type), of_type(type, 1), file_of(type), of_type(type, 2));
+        end_and_run();
+    }
+}
+
+/* by type, f32 also with ftz */
 static void written_comparisons(bool setp)
 {
-    for (unsigned row = 0; row <= TYPES; row++)
-        for (unsigned cmp = 0; cmp < CMPS; cmp++) {
-            unsigned type = row < TYPES ? row : F32;
-            unsigned form = turn % 4;
-            if (setp)
-                begin("%s 4 %u %u %u %u", guard(), form, form == 3 ? 0 : predicate(0),
-                      form % 2 == 1 ? predicate(1) : 0, cmp);
-            else
-                begin("%s 3 %u %u %u", guard(), turn / 3 % 3, word(0), cmp);
-            boolean(turn % BOOLS, predicate(2));
-            sources(row == TYPES, type, is_wide(type), of_type(type, 1), is_wide(type), of_type(type, 2));
-            end_and_run();
-        }
+    for (unsigned type = 0; type < TYPES; type++)
+        written_comparisons_of(setp, 0, type);
+    written_comparisons_of(setp, 1, F32);
 }
 
 static void written_choice(unsigned type, unsigned c)
 {
-    unsigned file = is_wide(type);
+    unsigned file = file_of(type);
     printf(" %u %u %u %u %u %u %u %u", type, file, of_type(type, 0), file, of_type(type, 1),
            file, of_type(type, 2), c);
     end_and_run();
 }
 
 /* selp by type, twice; slct by type and type of c */
-static void written_choices(void)
+static void written_choices(unsigned from, unsigned to)
 {
-    for (unsigned at = 0; at < 2 * TYPES; at++) {
+    unsigned types = to - from;
+    for (unsigned at = 0; at < 2 * types; at++) {
         begin("%s 5", guard());
-        written_choice(at % TYPES, predicate(0));
+        written_choice(from + at % types, predicate(0));
     }
-    for (unsigned at = 0; at < 3 * TYPES; at++) {
-        begin("%s 6 %u", guard(), at / TYPES);
-        written_choice(at % TYPES, word(3));
+    for (unsigned at = 0; at < 3 * types; at++) {
+        begin("%s 6 %u", guard(), at / types);
+        written_choice(from + at % types, word(3));
     }
 }
 
@@ -511,7 +528,7 @@ static void figures(void)
 /* set by comparison and setp.eq on all pairs of values; setp with both values before, so that each write shows */
 static void pairs_of_type(unsigned type, unsigned ftz)
 {
-    char file = is_wide(type) ? 'd' : 'r';
+    char file = letter_of(type);
     for (unsigned cmp = 0; cmp < CMPS; cmp++) {
         if (!compares(cmp, type))
             continue;
@@ -540,15 +557,17 @@ static void pairs(void)
     }
 }
 
-/* Runs with t true and false, every c in %p0, and other tokens. */
-static void run_truths(const char *rest)
+/* Runs with t, lt of a signed type, true and false, every c in %p0, and other tokens. */
+static void run_truths(unsigned type, const char *rest)
 {
-    run(1, "r0=FFFFFFFF r1=0 p0%s", rest);
-    run(1, "r0=FFFFFFFF r1=FFFFFFFE p0%s", rest);
+    const char *ones = is_half(type) ? "" : "FFFF";
+    char file = letter_of(type);
+    run(1, "%c0=%sFFFF %c1=0 p0%s", file, ones, file, rest);
+    run(1, "%c0=%sFFFF %c1=%sFFFE p0%s", file, ones, file, ones, rest);
 }
 
 /* setp by BoolOp, `!` and destination, which may be c itself */
-static void setp_places(void)
+static void setp_places(unsigned type)
 {
     static const char *const place[] = {
         "0 1 0", "1 1 2", "1 0 2", "1 1 0", "2 1 0", "3 0 2", "0 0 0", "2 0 0", "3 0 0", "1 2 1"
@@ -558,24 +577,24 @@ static void setp_places(void)
         for (unsigned i = 0; i < COUNT(place); i++) {
             begin("0 0 4 %s 2", place[i]);
             boolean(choice, 0);
-            usual_sources(0, B32 + 4);
+            usual_sources(0, type);
             end();
-            run_truths("");
-            run_truths(" p1=1 p2=1");
+            run_truths(type, "");
+            run_truths(type, " p1=1 p2=1");
         }
 }
 
 /* set by BoolOp, `!` and dtype */
-static void set_booleans(void)
+static void set_booleans(unsigned type)
 {
     values(BITS, COUNT(BITS));
     for (unsigned choice = 0; choice < BOOLS; choice++)
         for (unsigned dtype = 0; dtype < 3; dtype++) {
             begin("0 0 3 %u 3 2", dtype);
             boolean(choice, 0);
-            usual_sources(0, B32 + 4);
+            usual_sources(0, type);
             end();
-            run_truths("");
+            run_truths(type, "");
         }
 }
 
@@ -637,32 +656,33 @@ static void lane_runs(void)
         }
 }
 
-/* Between two words or doubles, by the open register c. */
-static void run_choice(unsigned type, const char *const between[2], const char *c)
+/* Between two registers of the type's file, by the open register c. */
+static void run_choice(unsigned type, const char *const between[], const char *c)
 {
-    run(1, "%s %s", between[is_wide(type)], c);
+    run(1, "%s %s", between[file_of(type)], c);
 }
 
-static const char *const AS_AND_BS[2] = { "r0=AAAAAAAA r1=BBBBBBBB", "d0=AAAAAAAAAAAAAAAA d1=BBBBBBBBBBBBBBBB" };
+static const char *const AS_AND_BS[] = { "r0=AAAAAAAA r1=BBBBBBBB", "d0=AAAAAAAAAAAAAAAA d1=BBBBBBBBBBBBBBBB", "h0=AAAA h1=BBBB" };
 
 /* slct by type of c, type and value of c */
-static void slct_runs(const uint64_t *value, unsigned count, const char *const between[2])
+static void slct_runs(unsigned from, unsigned to, const uint64_t *value, unsigned count, const char *const between[])
 {
+    unsigned types = to - from;
     values(value, count);
-    for (unsigned row = 0; row < 3 * TYPES; row++) {
-        unsigned type = row % TYPES, file = is_wide(type);
-        begin("0 0 6 %u %u %u 3 %u 0 %u 1 2", row / TYPES, type, file, file, file);
+    for (unsigned row = 0; row < 3 * types; row++) {
+        unsigned type = from + row % types, file = file_of(type);
+        begin("0 0 6 %u %u %u 3 %u 0 %u 1 2", row / types, type, file, file, file);
         end();
         run_choice(type, between, "r2");
     }
 }
 
 /* selp by type and value of c */
-static void selp_runs(void)
+static void selp_runs(unsigned from, unsigned to)
 {
     values(BITS, COUNT(BITS));
-    for (unsigned type = 0; type < TYPES; type++) {
-        unsigned file = is_wide(type);
+    for (unsigned type = from; type < to; type++) {
+        unsigned file = file_of(type);
         begin("0 0 5 %u %u 3 %u 0 %u 1 0", type, file, file, file);
         end();
         run_choice(type, AS_AND_BS, "p0");
@@ -889,12 +909,186 @@ static void slct_c_twice(void)
     }
 }
 
+/* ---- request T-06: what is of no other record ---- */
+
+/* Zero, ones, edges of a byte and of a half of either sign. */
+static const uint64_t HALVES[] = {
+    0x0000, 0x0001, 0x007F, 0x0080, 0x00FF, 0x0100, 0x7FFE, 0x7FFF, 0x8000, 0x8001, 0x80FF, 0xFF00, 0xFFFE, 0xFFFF
+};
+static const uint64_t FEW_HALVES[] = { 0x0000, 0x0001, 0x00FF, 0x0100, 0x7FFF, 0x8000, 0xFFFF };
+
+enum { FILES = 3 };     /* that go by width */
+
+/* a and b of set and setp from each file, by type, without and with BoolOp: what has no half in it stands above */
+static void halves_of_comparisons(void)
+{
+    for (unsigned setp = 0; setp < 2; setp++)
+        for (unsigned type = 0; type < ALL_TYPES; type++)
+            for (unsigned a_file = 0; a_file < FILES; a_file++)
+                for (unsigned b_file = 0; b_file < FILES; b_file++)
+                    for (unsigned choice = 0; choice < 2; choice++) {
+                        if (!is_half(type) && a_file < 2 && b_file < 2)
+                            continue;
+                        begin(setp ? "0 0 4 1 1 4 0" : "0 0 3 0 3 0");
+                        boolean(choice, 2);
+                        sources(0, type, a_file, 0, b_file, 1);
+                        end_and_run();
+                    }
+}
+
+/* d, a and b of selp and slct from each file, by type: what has no half in it stands above */
+static void halves_of_choices(void)
+{
+    for (unsigned slct = 0; slct < 2; slct++)
+        for (unsigned type = 0; type < ALL_TYPES; type++)
+            for (unsigned at = 0; at < FILES * FILES * FILES; at++) {
+                unsigned d_file = at % FILES, a_file = at / FILES % FILES, b_file = at / FILES / FILES;
+                if (!is_half(type) && d_file < 2 && a_file < 2 && b_file < 2)
+                    continue;
+                begin(slct ? "0 0 6 1 %u" : "0 0 5 %u", type);
+                printf(" %u 3 %u 0 %u 1 2", d_file, a_file, b_file);
+                end_and_run();
+            }
+}
+
+/* two faults at a time, and faults that only look like some */
+static void mixed_halves(void)
+{
+    static const char *const fields[] = {
+        "2 15 5 8 2 31 2 31 2 31 15",               /* the last of each file */
+        "0 0 6 2 10 2 31 2 30 2 29 63",
+        "0 0 3 2 63 5 3 1 15 0 10 2 31 2 31",
+        "0 0 5 9 2 32 2 0 2 1 16",                  /* %rs32 and %p16 */
+        "1 16 5 10 2 3 2 0 2 32 2",                 /* guard and b */
+        "0 0 3 0 64 0 0 0 0 0 9 2 0 2 32",          /* d and b */
+        "0 0 3 0 3 2 0 0 0 1 8 2 0 2 1",            /* lt and ftz on b16 */
+        "0 0 3 0 3 6 0 0 0 1 10 2 0 2 1",           /* lo and ftz on s16 */
+        "0 0 3 0 3 6 0 0 0 0 10 0 0 0 1",           /* lo on s16, and words */
+        "0 0 4 1 5 5 0 0 0 0 0 9 2 0 2 1",          /* one predicate twice */
+        "0 0 4 1 16 16 0 0 0 0 0 9 2 32 2 1",
+        "0 0 4 1 1 2 0 1 0 16 0 9 2 0 2 1",         /* c over its file */
+        "0 0 4 0 31 0 0 0 0 0 0 9 2 0 2 1",         /* a predicate as a half's number */
+        "0 0 6 0 9 2 3 2 0 2 1 64",                 /* c of slct over the words, and not */
+        "0 0 6 0 9 2 3 2 0 2 1 32",
+        "0 0 6 0 9 2 63 2 0 2 1 63",                /* %rs63 */
+        "0 0 5 2 0 32 0 63 0 47 1",                 /* words that are no halves */
+        "0 0 5 9 0 32 0 63 0 47 1",
+        "0 0 5 9 1 3 1 0 1 1 1",                    /* a record of doubles, of words, as one of halves */
+        "0 0 5 9 0 3 0 0 0 1 1",
+        "0 0 5 3 2 3 2 0 2 1 1",                    /* and the other way */
+        "0 0 5 2 2 3 2 0 2 1 1",
+    };
+    for (unsigned i = 0; i < COUNT(fields); i++) {
+        begin("%s", fields[i]);
+        end_and_run();
+    }
+}
+
+/* set and setp by type and comparison: set on all pairs, setp on fewer, with both values before */
+static void half_pairs(void)
+{
+    values(HALVES, COUNT(HALVES));
+    for (unsigned type = B16; type <= S16; type++)
+        pairs_of_type(type, 0);
+    values(FEW_HALVES, COUNT(FEW_HALVES));
+    for (unsigned type = B16; type <= S16; type++)
+        for (unsigned cmp = 0; cmp < CMPS; cmp++) {
+            if (!compares(cmp, type))
+                continue;
+            begin("0 0 4 1 1 2 %u", cmp);
+            boolean(0, 0);
+            usual_sources(0, type);
+            end();
+            run(2, "h0 h1");
+            run(2, "h0 h1 p1=1 p2=1");
+        }
+}
+
+/* every bit of a half counts, in each type; words, doubles and predicates of the same numbers do not */
+static void half_bits(void)
+{
+    uint64_t bits[16];
+    for (unsigned i = 0; i < 16; i++)
+        bits[i] = UINT64_C(1) << i;
+    values(bits, COUNT(bits));
+    for (unsigned type = B16; type <= S16; type++)
+        for (unsigned cmp = 0; cmp < (type == B16 ? 2 : 3); cmp++) {
+            begin("0 0 3 0 3 %u", cmp);
+            boolean(0, 0);
+            usual_sources(0, type);
+            end();
+            run(1, "h0 h1=0");
+            run(1, "h0=0 h1");
+            run(1, "h0 h1=FFFF r0=0 r1=1 d0=0 d1=1");
+        }
+    for (unsigned type = B16; type <= S16; type++) {
+        begin("0 0 5 %u 2 3 2 0 2 1 2", type);
+        end();
+        run(1, "h0 h1=0 p2=1");
+        run(1, "h0=0 h1");
+        begin("0 0 6 0 %u 2 3 2 0 2 1 2", type);
+        end();
+        run(1, "h0 h1=0 r2=0");
+        run(1, "h0=FFFF h1 r2=80000000");
+    }
+}
+
+/* set on halves by comparison and dtype */
+static void half_truths(void)
+{
+    values(FEW_HALVES, COUNT(FEW_HALVES));
+    for (unsigned type = B16; type <= S16; type++)
+        for (unsigned dtype = 1; dtype < 3; dtype++)
+            for (unsigned cmp = 0; cmp < CMPS; cmp++) {
+                if (!compares(cmp, type))
+                    continue;
+                begin("0 0 3 %u 3 %u", dtype, cmp);
+                boolean(0, 0);
+                usual_sources(0, type);
+                end();
+                run(1, "h0 h1=8000");
+                run(1, "h0 h1=100");
+            }
+}
+
+/* a half that is a source and the destination; the numbers of c too */
+static void same_halves(void)
+{
+    static const unsigned dabc[][4] = {
+        { 1, 1, 2, 3 }, { 1, 2, 1, 3 }, { 1, 2, 3, 1 }, { 1, 1, 1, 2 }, { 1, 1, 1, 1 }, { 2, 1, 1, 1 }
+    };
+    for (unsigned of = LANE_BASES; of < COUNT(BASES); of++)
+        for (unsigned i = 0; i < COUNT(dabc); i++) {
+            base("0 0", &BASES[of], dabc[i]);
+            run(0, "");
+            run(0, "h1=8001 h2=7FFE h3=A5C3 r1=80000001 r2=FF800001 r3=7F000000");
+            run(0, "h1=8001 h2=7FFE h3=A5C3 r1=80000001 r2=FF800001 r3=7F000000 p1=1 p2=1 p3=1");
+        }
+}
+
+/* files of wrong lengths, that of the halves above all, on every base, with or without halves; 8 before 10 before 11 */
+static void half_files(void)
+{
+    static const char *const wrong[] = {
+        "H31", "H33", "H0", "H1", "H16", "H32", "H31 D33", "H33 D31", "R63 H33", "H31 P17", "R65 H33 D33 P17", "R0 H0 D0 P0",
+        "H31 p2=2", "H33 p15=FF", "H32 p15=2", "H0 p0=2", "h31=FFFF", "h32=FFFF", "H33 h32=FFFF", "D31 h31=1"
+    };
+    static const char *const guarded[] = { "0 0", "1 6", "2 6", "1 16" };
+    for (unsigned of = 0; of < COUNT(BASES); of++)
+        for (unsigned i = 0; i < COUNT(guarded) + 1; i++) {
+            const unsigned dabc[4] = { 3, i < COUNT(guarded) ? 5 : 64, 1, 2 };
+            base(guarded[i % COUNT(guarded)], &BASES[of], dabc);
+            for (unsigned k = 0; k < COUNT(wrong); k++)
+                run(0, "%s", wrong[k]);
+        }
+}
+
 /* ---- all of it ---- */
 
 static void legality(void)
 {
     section = LEGALITY;
-    legality_of_comparisons();
+    legality_of_comparisons(0, TYPES);
     files_of_comparisons();
     files_of_choices();
     masks(false, 0);
@@ -912,7 +1106,7 @@ static void written(void)
     written_lanes(false);
     written_comparisons(false);
     written_comparisons(true);
-    written_choices();
+    written_choices(0, TYPES);
     longest();
 }
 
@@ -921,13 +1115,13 @@ static void executed(void)
     section = EXECUTED;
     figures();
     pairs();
-    setp_places();
-    set_booleans();
+    setp_places(B32 + 4);
+    set_booleans(B32 + 4);
     scalar_runs();
     vset_runs();
     lane_runs();
-    slct_runs(WORDS, VALUES, AS_AND_BS);
-    selp_runs();
+    slct_runs(0, TYPES, WORDS, VALUES, AS_AND_BS);
+    selp_runs(0, TYPES);
     guards(0, OLDER_BASES);
     set_guards();
     same_registers(0, OLDER_BASES);
@@ -941,7 +1135,7 @@ static void arithmetic_by_lanes(void)
     for (unsigned op = 0; op < OPS; op++)
         masks(true, op);
     lane_digits(true);
-    numbers(OLDER_BASES, COUNT(BASES));
+    numbers(OLDER_BASES, LANE_BASES);
     mixed_lanes();
     section = WRITTEN;
     written_heads();
@@ -953,9 +1147,9 @@ static void arithmetic_by_lanes(void)
     lane_masks();
     lane_selectors();
     lane_carries();
-    guards(OLDER_BASES, COUNT(BASES));
-    same_registers(OLDER_BASES, COUNT(BASES));
-    files(OLDER_BASES, COUNT(BASES));
+    guards(OLDER_BASES, LANE_BASES);
+    same_registers(OLDER_BASES, LANE_BASES);
+    files(OLDER_BASES, LANE_BASES);
 }
 
 /* request T-02, behind those of T-01: a and b are subnormals themselves, or doubles of two subnormal singles */
@@ -967,9 +1161,39 @@ static void tiny_negatives(void)
     for (unsigned i = 0; i < 32; i++)
         sign_and_bit[i] = 0x80000000 | UINT64_C(1) << i;
     section = EXECUTED;
-    slct_runs(AROUND_TINY, COUNT(AROUND_TINY), subnormals);
+    slct_runs(0, TYPES, AROUND_TINY, COUNT(AROUND_TINY), subnormals);
     slct_c_twice();
-    slct_runs(sign_and_bit, COUNT(sign_and_bit), others);
+    slct_runs(0, TYPES, sign_and_bit, COUNT(sign_and_bit), others);
+}
+
+/* request T-06, behind those of T-02 */
+static void half_size(void)
+{
+    static const char *const between[] = { "", "", "h0=A5C3 h1=5A3C" };
+    section = LEGALITY;
+    legality_of_comparisons(B16, ALL_TYPES);
+    halves_of_comparisons();
+    halves_of_choices();
+    numbers(LANE_BASES, COUNT(BASES));
+    mixed_halves();
+    section = WRITTEN;
+    for (unsigned type = B16; type <= S16; type++) {
+        written_comparisons_of(false, 0, type);
+        written_comparisons_of(true, 0, type);
+    }
+    written_choices(B16, ALL_TYPES);
+    section = EXECUTED;
+    half_pairs();
+    half_bits();
+    half_truths();
+    setp_places(S16);
+    set_booleans(S16);
+    slct_runs(B16, ALL_TYPES, AROUND_TINY, COUNT(AROUND_TINY), between);
+    selp_runs(B16, ALL_TYPES);
+    guards(LANE_BASES, COUNT(BASES));
+    same_halves();
+    files(LANE_BASES, COUNT(BASES));
+    half_files();
 }
 
 int main(int argc, char **argv)
@@ -984,6 +1208,7 @@ int main(int argc, char **argv)
     executed();
     arithmetic_by_lanes();
     tiny_negatives();
+    half_size();
     if (fflush(stdout) != 0 || ferror(stdout))
         return 1;
     if (count)

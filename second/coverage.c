@@ -13,7 +13,7 @@
 
 /* ---- kinds: `group: item`, each declared before it is counted ---- */
 
-enum { KINDS_MOST = 16384, NAME_MOST = 96 };
+enum { KINDS_MOST = 32768, NAME_MOST = 96 };
 
 typedef struct {
     char name[NAME_MOST];
@@ -90,6 +90,11 @@ static const char *edge(uint32_t x, unsigned width)
     return x == 0 ? edges[0] : x == 1 ? edges[1] : x == ones >> 1 ? edges[2] : x == (ones >> 1) + 1 ? edges[3] : x == ones ? edges[4] : edges[5];
 }
 
+/* Of a half in a listing. */
+static const char *const small_halves[] = { "0", "1", "2 to 31" };
+
+static const char *small_half(unsigned x) { return small_halves[x < 2 ? x : 2]; }
+
 static const char *order_name(unsigned order)
 {
     return order == LESS ? "<" : order == EQUAL ? "=" : order == GREATER ? ">" : "?";
@@ -103,11 +108,18 @@ static const char *part_name(Part part)
 }
 
 static const char *const place_kinds[] = { "p", "p|q", "p|_", "_|q" };
-static const char *const faults[] = { "negated", "pair", "%r", "%rd", "%p", "selector" };
+static const char *const faults[] = { "negated", "pair", "%r", "%rs", "%rd", "%p", "selector" };
+enum { FILE_FAULT = 2, R_FAULT = FILE_FAULT + FILE_R, P_FAULT = FILE_FAULT + FILE_P, SELECTOR_FAULT = FILE_FAULT + FILES };
 static const char *const roles[] = { "d", "a", "b", "c", "guard", "second" };
 
 static bool is_scalar(Word op) { return op >= W_VADD && op <= W_VSET; }
 static bool is_lane_arithmetic(int op) { return is_simd((Word)op) && !is_vset((Word)op); }
+
+/* What an operand that is wrong somewhere has in it. */
+static unsigned fault_of(const Operand *o)
+{
+    return o->form == NEGATED ? 0 : o->form == PAIR ? 1 : o->selector != 0 ? SELECTOR_FAULT : FILE_FAULT + (unsigned)o->first.file;
+}
 
 /* The operation of a form with 4 is that of the form with 2. */
 static Word with_2(Word op) { return lanes_of(op) == 4 ? (Word)(op - W_VSET4 + W_VSET2) : op; }
@@ -130,7 +142,7 @@ static void declare_heads(void)
                         if (is_vset((Word)op) && (op == W_VSET || o < 2))
                             kind("head: %s.%s.%s.%s%s", spelling[op], spelling[d], spelling[a], spelling[cmp], op2s[o]);
             }
-    for (int s = W_U32; s <= W_F64; s++) {
+    for (int s = W_U32; s <= W_S16; s++) {
         kind("head: selp.%s", spelling[s]);
         kind("head: slct.%s.s32", spelling[s]);
         kind("head: slct.%s.f32", spelling[s]);
@@ -191,14 +203,17 @@ static void declare_values(void)
         for (int x = 0; x < 6 && s != W_F32; x++)
             for (int y = 0; y < 6; y++)
                 kind("compared words: %s %s %s", spelling[s], edges[x], edges[y]);
-    /* a listing can but copy %rd, so its doubles are 0 to 31 as bits: never NaN, infinite, normal or negative */
+    /* a listing can but copy %rd and %rs, so its doubles and halves are 0 to 31 as bits: never NaN, infinite, normal or negative */
     for (int op = W_SET; op <= W_SETP; op++)
-        for (int s = W_U32; s <= W_F64; s++)
+        for (int s = W_U32; s <= W_S16; s++)
             for (int cmp = W_EQ; cmp <= W_NAN; cmp++)
                 for (unsigned o = LESS; o <= (s == W_F32 ? UNORDERED : GREATER); o *= 2)
                     if (compares((Word)cmp, (Word)s))
                         kind("order: %s.%s.%s %s", spelling[op], spelling[cmp], spelling[s], order_name(o));
-    for (int d = W_U32; d <= W_F64; d++) {
+    for (int s = W_B16; s <= W_S16; s++)
+        for (unsigned pair = 0; pair < 9; pair++)
+            kind("compared halves: %s %s %s", spelling[s], small_halves[pair / 3], small_halves[pair % 3]);
+    for (int d = W_U32; d <= W_S16; d++) {
         kind("slct: %s.s32 below zero", spelling[d]);
         kind("slct: %s.s32 zero", spelling[d]);
         kind("slct: %s.s32 above zero", spelling[d]);
@@ -274,6 +289,8 @@ static void declare_operands(void)
     for (int role = 0; role < 6; role++) {
         for (int n = 0; n < R_COUNT && role < 4; n++)
             kind("number: %%r%d as %s", n, roles[role]);
+        for (int n = 0; n < RS_COUNT && role < 3; n++)
+            kind("number: %%rs%d as %s", n, roles[role]);
         for (int n = 0; n < RD_COUNT && role < 3; n++)
             kind("number: %%rd%d as %s", n, roles[role]);
         for (int n = 0; n < P_COUNT; n++)
@@ -286,8 +303,8 @@ static void declare_operands(void)
 static bool is_right(int op, int role, int fault)
 {
     bool video = op <= W_VMAX4;
-    return (fault == 2 && ((video && (role > 0 || op >= W_VSET2)) || (op == W_SET && role == 0) || (op == W_SLCT && role == 3))) ||
-           (fault == 4 && ((op == W_SETP && role == 0) || (op >= W_SET && op <= W_SELP && role == 3)));
+    return (fault == R_FAULT && ((video && (role > 0 || op >= W_VSET2)) || (op == W_SET && role == 0) || (op == W_SLCT && role == 3))) ||
+           (fault == P_FAULT && ((op == W_SETP && role == 0) || (op >= W_SET && op <= W_SELP && role == 3)));
 }
 
 /* ---- what can occur, from request T-01 ---- */
@@ -439,13 +456,15 @@ static const char *slct_head(bool ftz, const char *data, Word c_type)
     return head;
 }
 
+static const char *const file_bits[] = { [FILE_R] = "32 bits", [FILE_RS] = "16 bits", [FILE_RD] = "64 bits" };
+
 static void declare_tiny(bool ftz, Word c_type, char sign)
 {
     for EACH(i, tiny_sizes) {
-        for (int d = W_U32; d <= W_F64; d++)
+        for (int d = W_U32; d <= W_S16; d++)
             kind("tiny c: %s %c%s", slct_head(ftz, spelling[d], c_type), sign, tiny_sizes[i]);
-        kind("tiny c to the end: %s %c%s", slct_head(ftz, "32 bits", c_type), sign, tiny_sizes[i]);
-        kind("tiny c to the end: %s %c%s", slct_head(ftz, "64 bits", c_type), sign, tiny_sizes[i]);
+        for EACH(file, file_bits)
+            kind("tiny c to the end: %s %c%s", slct_head(ftz, file_bits[file], c_type), sign, tiny_sizes[i]);
     }
     for (int d = W_U32; d <= W_F64; d++) {
         const char *head = slct_head(ftz, spelling[d], c_type);
@@ -453,6 +472,26 @@ static void declare_tiny(bool ftz, Word c_type, char sign)
             kind("subnormal copied: %s %c", head, sign);
         if (!is_wide((Word)d) && ftz)
             kind("subnormal copied: %s %c, a is c", head, sign);
+    }
+}
+
+/* ---- what can occur, from request T-06, beside more of the kinds above ---- */
+
+static void declare_halves(void)
+{
+    for (int type = W_B16; type <= W_S16; type++)
+        for (int op = W_SELP; op <= W_SLCT; op++) {
+            kind("half to the end: %s.%s a", spelling[op], spelling[type]);
+            kind("half to the end: %s.%s b", spelling[op], spelling[type]);
+        }
+    for (int op = W_SET; op <= W_SLCT; op++) {
+        kind("same half: %s a and b", spelling[op]);
+        if (op == W_SET || op == W_SLCT)
+            kind("same half: %s word and half of one number", spelling[op]);
+        if (op >= W_SELP) {
+            kind("same half: %s d and a", spelling[op]);
+            kind("same half: %s d and b", spelling[op]);
+        }
     }
 }
 
@@ -478,16 +517,16 @@ static const char *const pieces[] = {
 enum { GUARD_PIECE = 4, HEAD_PIECE = 12, COMMA_PIECE = 15, NEGATED_PIECE = 17, FIRST_PIECE = 25, SECOND_PIECE = 34, END_PIECE = 44 };
 
 static const char *const byte_classes[] = {
-    "a space", "a tab", "a digit", "r", "d", "p", "another letter", "a capital", "a dot", "a comma", "a semicolon", "a bar",
+    "a space", "a tab", "a digit", "r", "s", "d", "p", "another letter", "a capital", "a dot", "a comma", "a semicolon", "a bar",
     "_", "!", "@", "%", "another mark", "a control byte", "a byte over 127"
 };
-static const Byte class_example[] = { ' ', '\t', '5', 'r', 'd', 'p', 'x', 'X', '.', ',', ';', '|', '_', '!', '@', '%', '#', 1, 0x80 };
+static const Byte class_example[] = { ' ', '\t', '5', 'r', 's', 'd', 'p', 'x', 'X', '.', ',', ';', '|', '_', '!', '@', '%', '#', 1, 0x80 };
 
 static unsigned byte_class(Byte b)
 {
     const Byte *same = memchr(class_example, b, sizeof class_example);
-    return same != NULL ? (unsigned)(same - class_example) : b >= 0x80 ? 18 : b < ' ' || b == 0x7F ? 17 : is_digit(b) ? 2
-         : is_name_byte(b) ? 6 : b >= 'A' && b <= 'Z' ? 7 : 16;
+    return same != NULL ? (unsigned)(same - class_example) : b >= 0x80 ? 19 : b < ' ' || b == 0x7F ? 18 : is_digit(b) ? 2
+         : is_name_byte(b) ? 7 : b >= 'A' && b <= 'Z' ? 8 : 17;
 }
 
 /* What the first `place` bytes of the line end in. */
@@ -525,6 +564,24 @@ static unsigned piece_at(const Byte *p, size_t place)
     }
 }
 
+/* Whether that piece is a register of which a file and perhaps digits are there. */
+static bool names_file(unsigned piece)
+{
+    static const unsigned percents[] = { GUARD_PIECE, NEGATED_PIECE + 1, FIRST_PIECE, SECOND_PIECE };
+    for EACH(i, percents)
+        if (piece >= percents[i] + FILE_NAMED && piece <= percents[i] + THREE_DIGITS)
+            return true;
+    return false;
+}
+
+/* Whether the first `place` bytes of the line, which end in such a piece, end in a half. */
+static bool ends_in_half(const Byte *p, size_t place)
+{
+    while (place > 0 && is_digit(p[place - 1]))
+        place--;
+    return place >= 3 && memcmp(p + place - 3, "%rs", 3) == 0;
+}
+
 static void declare_shape_places(void)
 {
     for EACH(i, pieces) {
@@ -534,12 +591,17 @@ static void declare_shape_places(void)
             stop("a piece that is not found", pieces[i]);
         if (i <= END_PIECE)
             kind("place 2: unfinished behind `%s`", pieces[i]);
+        if (names_file(i))
+            kind("place 2 in a half: unfinished behind `%s`", pieces[i]);
         for EACH(c, byte_classes) {
             Beginning b = { BEFORE_HEAD, PERCENT };
             for (size_t k = 0; k < length; k++)
                 follow(&b, text[k]);
-            if (!follow(&b, class_example[c]))
-                kind("place 2: behind `%s` %s", pieces[i], byte_classes[c]);
+            if (follow(&b, class_example[c]))
+                continue;
+            kind("place 2: behind `%s` %s", pieces[i], byte_classes[c]);
+            if (names_file(i))
+                kind("place 2 in a half: behind `%s` %s", pieces[i], byte_classes[c]);
         }
     }
     kind("place 2: at 159, a wrong byte");
@@ -557,12 +619,12 @@ static unsigned family(Word op)
     return op <= W_VMAX ? 0 : op == W_VSET ? 1 : op == W_SET ? 4 : op == W_SETP ? 5 : op == W_SELP ? 6 : op == W_SLCT ? 7 : is_vset(op) ? 2 : 3;
 }
 
-static const char *const word_classes[] = { "u32 or s32", "another type", "CMP6", "another CmpOp", "OP2", "BoolOp", "sat", "ftz", "an opcode", "no word" };
+static const char *const word_classes[] = { "u32 or s32", "another type", "a type of 16 bits", "CMP6", "another CmpOp", "OP2", "BoolOp", "sat", "ftz", "an opcode", "no word" };
 
 static unsigned word_class(Word w)
 {
-    return is_video_type(w) ? 0 : is_type(w) ? 1 : is_cmp6(w) ? 2 : is_cmp_op(w) ? 3 : is_op2(w) ? 4 : is_bool_op(w) ? 5
-         : w == W_SAT ? 6 : w == W_FTZ ? 7 : is_opcode(w) ? 8 : 9;
+    return is_video_type(w) ? 0 : is_half(w) ? 2 : is_type(w) ? 1 : is_cmp6(w) ? 3 : is_cmp_op(w) ? 4 : is_op2(w) ? 5 : is_bool_op(w) ? 6
+         : w == W_SAT ? 7 : w == W_FTZ ? 8 : is_opcode(w) ? 9 : 10;
 }
 
 /* The beginnings of legal lists: what stands there and which words may follow. */
@@ -623,7 +685,7 @@ static void check_lists(void)
 
 static void declare_modifier_places(void)
 {
-    static bool longer[64][MODIFIERS_MOST + 2], classes[8][MODIFIERS_MOST + 2][10], is_whole[64][MODIFIERS_MOST + 2];
+    static bool longer[64][MODIFIERS_MOST + 2], classes[8][MODIFIERS_MOST + 2][11], is_whole[64][MODIFIERS_MOST + 2];
     for EACH(i, starts) {
         const ListStart *s = &starts[i];
         if (s->op == W_NONE)
@@ -652,7 +714,7 @@ static void declare_modifier_places(void)
                     kind("place 4: %s modifier %u is %s", families[f], n, word_classes[c]);
     for (int op = W_SET; op <= W_SETP; op++)
         for (int cmp = W_EQ; cmp <= W_NAN; cmp++) {
-            for (int stype = W_U32; stype <= W_F64; stype++) {
+            for (int stype = W_U32; stype <= W_S16; stype++) {
                 if (!compares((Word)cmp, (Word)stype))
                     kind("place 4: %s %s and %s", spelling[op], spelling[cmp], spelling[stype]);
                 if (compares((Word)cmp, W_F32) && stype != W_F32)
@@ -680,7 +742,15 @@ static bool can_be_wrong(Word op, unsigned at, unsigned fault)
 {
     bool by_width = at < 3 && ((op >= W_SET && op <= W_SETP && at > 0) || op == W_SELP || op == W_SLCT);
     bool predicate = (op == W_SETP && at == 0) || (at == 3 && op >= W_SET && op <= W_SELP);
-    return fault == 2 ? by_width || predicate : fault == 4 ? !predicate : true;
+    return fault == R_FAULT ? by_width || predicate : fault == P_FAULT ? !predicate : true;
+}
+
+/* Whether an operand of that fault is wrong there under a type of 16 bits. */
+static bool is_wrong_with_halves(Word op, unsigned at, unsigned fault)
+{
+    bool half = at > 0 ? at < 3 : op == W_SELP || op == W_SLCT;
+    bool word = (op == W_SET && at == 0) || (op == W_SLCT && at == 3);
+    return fault == FILE_FAULT + FILE_RS ? !half : fault == R_FAULT ? !word : fault == P_FAULT ? half || word : true;
 }
 
 static void declare_operand_places(Word op, bool second)
@@ -696,6 +766,7 @@ static void declare_operand_places(Word op, bool second)
                 if (can_be_wrong(op, at, f))
                     kind("place 5: %s operand %u is %s", name, at, faults[f]);
     }
+    kind("place 5: %s guard a half", name);
     kind("place 5: %s operand %u too many", name, length);
     if (is_scalar(op) && !second)
         kind("place 5: %s operand 4 too many", name);
@@ -718,6 +789,15 @@ static void declare_places(void)
         if (op == W_SET || op == W_SETP)
             kind("place 6: %s !c", spelling[op]);
     }
+    for (int op = W_SET; op <= W_SLCT; op++)
+        for (unsigned at = 0; at < 4; at++)
+            for EACH(f, faults)
+                if (is_wrong_with_halves((Word)op, at, f))
+                    kind("place 5 with halves: %s operand %u is %s", spelling[op], at, faults[f]);
+    for (unsigned role = 0; role < 3; role++)
+        for (int op = W_SET; op <= W_SLCT; op++)
+            if (role > 0 || op >= W_SELP)
+                kind("place 6 of a half: %s %s", spelling[op], roles[role]);
     kind("place 5: end, no blank behind it");
     kind("place 5: end, blanks behind it");
     kind("place 5: end behind a written default with 2");
@@ -773,8 +853,8 @@ static void declare_lines(void)
             kind("refused 5: %s d with selector, no c", spelling[op]);
         kind("refused 5: %s guard no predicate", spelling[op]);
         for (int role = 0; role < 4; role++)
-            for (int f = 0; f < 6; f++)
-                if (!is_right(op, role, f))
+            for EACH(f, faults)
+                if (!is_right(op, role, (int)f))
                     kind("refused 5: %s %s is %s", spelling[op], roles[role], faults[f]);
         kind("refused 6: %s", spelling[op]);
     }
@@ -782,8 +862,10 @@ static void declare_lines(void)
     for (int role = 0; role < 6; role++) {
         if (role < 4)
             kind("refused 6: %%r64 as %s", roles[role]);
-        if (role < 3)
+        if (role < 3) {
+            kind("refused 6: %%rs32 as %s", roles[role]);
             kind("refused 6: %%rd32 as %s", roles[role]);
+        }
         if (role != 1 && role != 2)
             kind("refused 6: %%p16 as %s", roles[role]);
     }
@@ -945,6 +1027,9 @@ static void count_comparison(const Machine *m, const Record *rec, const Line *li
     unsigned order;
     if (is_wide(rec->atype)) {
         order = order_unsigned(m->rd[rec->a], m->rd[rec->b]);
+    } else if (is_half(rec->atype)) {
+        hit("compared halves: %s %s %s", spelling[rec->atype], small_half(m->rs[rec->a]), small_half(m->rs[rec->b]));
+        order = order_unsigned(m->rs[rec->a], m->rs[rec->b]);
     } else if (rec->atype == W_F32) {
         hit("singles: %s%s %s", rec->ftz ? "ftz " : "", single_class(x), single_class(y));
         order = order_float(rec->ftz ? flush(x) : x, rec->ftz ? flush(y) : y, 0x80000000, 0x7F800000);
@@ -975,52 +1060,61 @@ static void count_comparison(const Machine *m, const Record *rec, const Line *li
 }
 
 /* The kind of choice that a register holds; if it does so at the end of the listing a wrong choice is printed. Empty if none. */
-static char held[R_COUNT + RD_COUNT][NAME_MOST];
+static char held[FILES][R_COUNT][NAME_MOST];
 
 static char *held_by_d(const Record *rec)
 {
-    return held[(rec->op == W_SELP || rec->op == W_SLCT) && is_wide(rec->dtype) ? R_COUNT + rec->d : rec->d];
+    return held[rec->op == W_SELP || rec->op == W_SLCT ? file_of(rec->dtype) : FILE_R][rec->d];
 }
 
 static void count_held(void)
 {
-    for (unsigned n = 0; n < R_COUNT + RD_COUNT; n++) {
-        if (held[n][0] != '\0')
-            hit("%s", held[n]);
-        held[n][0] = '\0';
-    }
+    for (unsigned file = 0; file < FILES; file++)
+        for (unsigned n = 0; n < R_COUNT; n++) {
+            if (held[file][n][0] != '\0')
+                hit("%s", held[file][n]);
+            held[file][n][0] = '\0';
+        }
+}
+
+/* A half that is left to the end, where a wrong choice would be printed. */
+static void count_half_choice(const Machine *m, const Record *rec, bool picks_a)
+{
+    if (is_half(rec->dtype) && m->rs[rec->a] != m->rs[rec->b])
+        snprintf(held_by_d(rec), NAME_MOST, "half to the end: %s.%s %s", spelling[rec->op], spelling[rec->dtype], picks_a ? "a" : "b");
 }
 
 static void count_slct(const Machine *m, const Record *rec)
 {
-    bool wide = is_wide(rec->dtype);
-    uint64_t a = wide ? m->rd[rec->a] : m->r[rec->a], b = wide ? m->rd[rec->b] : m->r[rec->b];
+    File file = file_of(rec->dtype);
+    uint64_t a = value_at(m, file, rec->a), b = value_at(m, file, rec->b);
     uint32_t c = m->r[rec->c];
-    uint32_t copied = (uint32_t)(at_or_above_zero(c, rec->btype, rec->ftz) ? a : b);    /* %rd is 0 to 31 in a listing */
+    bool picks_a = at_or_above_zero(c, rec->btype, rec->ftz);
+    uint32_t copied = (uint32_t)(picks_a ? a : b);      /* %rd is 0 to 31 in a listing */
     const char *head = slct_head(rec->ftz, spelling[rec->dtype], rec->btype);
     hit("slct: %s %s", head, rec->btype == W_F32 ? single_class(c) : c == 0 ? "zero" : c >> 31 ? "below zero" : "above zero");
-    if (is_subnormal(copied))
+    count_half_choice(m, rec, picks_a);
+    if (is_subnormal(copied) && file != FILE_RS)
         hit("subnormal copied: %s %c", head, "+-"[copied >> 31]);
     if (a == b)
         return;                 /* a wrong choice would not show */
-    if (is_subnormal(c) && rec->ftz && !wide && rec->a == rec->c)
+    if (is_subnormal(c) && rec->ftz && file == FILE_R && rec->a == rec->c)
         hit("subnormal copied: %s %c, a is c", head, "+-"[c >> 31]);
     if (tiny_size(c) < 5) {
         hit("tiny c: %s %c%s", head, "+-"[c >> 31], tiny_sizes[tiny_size(c)]);
-        snprintf(held_by_d(rec), NAME_MOST, "tiny c to the end: %s %c%s", slct_head(rec->ftz, wide ? "64 bits" : "32 bits", rec->btype),
+        snprintf(held_by_d(rec), NAME_MOST, "tiny c to the end: %s %c%s", slct_head(rec->ftz, file_bits[file], rec->btype),
                  "+-"[c >> 31], tiny_sizes[tiny_size(c)]);
     }
 }
 
 static void count_registers(const Line *line, const Record *rec)
 {
-    static const char *const files[] = { "%r", "%rd", "%p" };
     if (line->guarded)
         hit("number: %%p%u as guard", line->guard.number);
     for (unsigned i = 0; i < line->operands; i++) {
         const Operand *o = &line->operand[i];
         if (o->first.file != SINK)
-            hit("number: %s%u as %s", files[o->first.file], o->first.number, roles[i]);
+            hit("number: %s%u as %s", lent[o->first.file].name, o->first.number, roles[i]);
         if (o->form == PAIR && o->second.file != SINK)
             hit("number: %%p%u as second", o->second.number);
     }
@@ -1036,8 +1130,18 @@ static void count_registers(const Line *line, const Record *rec)
         hit("same register: %s d and a", spelling[rec->op]);
     if (rec->op != W_SETP && rec->d == rec->b)
         hit("same register: %s d and b", spelling[rec->op]);
-    if (line->operands == 4 && rec->d == rec->c && (rec->op <= W_VMAX4 || (rec->op == W_SLCT && !is_wide(rec->dtype))))
+    if (line->operands == 4 && rec->d == rec->c && (rec->op <= W_VMAX4 || (rec->op == W_SLCT && file_of(rec->dtype) == FILE_R)))
         hit("same register: %s d and c", spelling[rec->op]);
+    if (line->operand[1].first.file == FILE_RS) {
+        if (rec->a == rec->b)
+            hit("same half: %s a and b", spelling[rec->op]);
+        if (rec->op >= W_SELP && rec->d == rec->a)
+            hit("same half: %s d and a", spelling[rec->op]);
+        if (rec->op >= W_SELP && rec->d == rec->b)
+            hit("same half: %s d and b", spelling[rec->op]);
+        if ((rec->op == W_SET && rec->d == rec->a) || (rec->op == W_SLCT && rec->d == rec->c))
+            hit("same half: %s word and half of one number", spelling[rec->op]);
+    }
 }
 
 /* A line that was read: what its record is, and the values that it is executed on. */
@@ -1055,16 +1159,18 @@ static void count_accepted(const Machine *m, const Line *line, const Record *rec
     hit("head: %.*s", (int)line->head.length, (const char *)line->head.at);
     if (rec->op != W_SETP)
         held_by_d(rec)[0] = '\0';
-    if (is_scalar(rec->op))
+    if (is_scalar(rec->op)) {
         count_scalar(m, rec);
-    else if (is_simd(rec->op))
+    } else if (is_simd(rec->op)) {
         count_lanes(m, rec, line);
-    else if (rec->op == W_SET || rec->op == W_SETP)
+    } else if (rec->op == W_SET || rec->op == W_SETP) {
         count_comparison(m, rec, line);
-    else if (rec->op == W_SELP)
+    } else if (rec->op == W_SELP) {
         hit("selp: %s %d", spelling[rec->dtype], m->p[rec->c]);
-    else
+        count_half_choice(m, rec, m->p[rec->c] == 1);
+    } else {
         count_slct(m, rec);
+    }
 }
 
 /* ---- lines that are refused: how near they are to a line that is read ---- */
@@ -1079,8 +1185,8 @@ static Operand operand_of(Form form, File first, File second, Key selector)
 static bool mended_by_operand(const Line *line, const Record *rec, unsigned at)
 {
     const Operand tries[] = {
-        operand_of(PLAIN, FILE_R, FILE_R, 0), operand_of(PLAIN, FILE_RD, FILE_R, 0), operand_of(PLAIN, FILE_P, FILE_R, 0),
-        operand_of(PLAIN, FILE_R, FILE_R, 'b' | '0' << 8)
+        operand_of(PLAIN, FILE_R, FILE_R, 0), operand_of(PLAIN, FILE_RS, FILE_R, 0), operand_of(PLAIN, FILE_RD, FILE_R, 0),
+        operand_of(PLAIN, FILE_P, FILE_R, 0), operand_of(PLAIN, FILE_R, FILE_R, 'b' | '0' << 8)
     };
     for (unsigned i = 0; i < sizeof tries / sizeof tries[0]; i++) {
         Line copy = *line;
@@ -1127,7 +1233,7 @@ static void count_wrong_operands(const Line *line, const Record *rec)
             continue;
         if (rec->op == W_SETP && o->form == PAIR && o->first.file == SINK && o->second.file == SINK)
             hit("refused 5: setp _|_");
-        hit("refused 5: %s %s is %s", op, roles[i], faults[o->form == NEGATED ? 0 : o->form == PAIR ? 1 : o->selector != 0 ? 5 : 2 + (unsigned)o->first.file]);
+        hit("refused 5: %s %s is %s", op, roles[i], faults[fault_of(o)]);
     }
 }
 
@@ -1302,15 +1408,13 @@ static void count_wrong_modifiers(const Line *line)
 
 static void count_great_number(const Line *line, const Record *rec)
 {
-    static const char *const first_over[] = { "%r64", "%rd32", "%p16" };
-    static const unsigned sizes[] = { R_COUNT, RD_COUNT, P_COUNT };
     hit("refused 6: %s", spelling[rec->op]);
     if (line->guarded && line->guard.number == P_COUNT)
         hit("refused 6: %%p16 as guard");
     for (unsigned i = 0; i < line->operands; i++) {
         const Operand *o = &line->operand[i];
-        if (o->first.file != SINK && o->first.number == sizes[o->first.file])
-            hit("refused 6: %s as %s", first_over[o->first.file], roles[i]);
+        if (o->first.file != SINK && o->first.number == lent[o->first.file].places)
+            hit("refused 6: %s%u as %s", lent[o->first.file].name, o->first.number, roles[i]);
         if (o->form == PAIR && o->second.file != SINK && o->second.number == P_COUNT)
             hit("refused 6: %%p16 as second");
     }
@@ -1375,15 +1479,14 @@ static bool begins_shape(const Byte *p, size_t count)
 /* Whether some legal list begins with the first `count` operands: if so, one with bare registers behind them. */
 static bool begins_operands(const Line *line, const Record *rec, unsigned count)
 {
-    static const File files[] = { FILE_R, FILE_RD, FILE_P };
     for (unsigned length = count < 3 ? 3 : count; length <= 4; length++)
-        for (unsigned n = 0; n < 81; n++) {
+        for (unsigned n = 0; n < FILES * FILES * FILES * FILES; n++) {
             Line copy = *line;
             Record other = *rec;
             unsigned rest = n;
             copy.operands = length;
-            for (unsigned i = count; i < length; i++, rest /= 3)
-                copy.operand[i] = operand_of(PLAIN, files[rest % 3], FILE_R, 0);
+            for (unsigned i = count; i < length; i++, rest /= FILES)
+                copy.operand[i] = operand_of(PLAIN, (File)(rest % FILES), FILE_R, 0);
             if (rest == 0 && read_record_operands(&copy, &other))
                 return true;
         }
@@ -1418,12 +1521,14 @@ static void check_operand_place(const Byte *p, const Line *line, const Record *r
 
 static void count_shape_place(const Byte *p, size_t length, size_t place)
 {
-    const char *piece = pieces[piece_at(p, place)];
-    unsigned commas = 0;
-    if (place == length)
-        hit("place 2: unfinished behind `%s`", piece);
-    else
-        hit("place 2: behind `%s` %s", piece, byte_classes[byte_class(p[place])]);
+    unsigned at = piece_at(p, place), commas = 0;
+    const char *piece = pieces[at], *in[] = { "", " in a half" };
+    for (unsigned i = 0; i < (names_file(at) && ends_in_half(p, place) ? 2 : 1); i++) {
+        if (place == length)
+            hit("place 2%s: unfinished behind `%s`", in[i], piece);
+        else
+            hit("place 2%s: behind `%s` %s", in[i], piece, byte_classes[byte_class(p[place])]);
+    }
     if (place >= 159)
         hit("place 2: at %u, %s", (unsigned)place, place == length ? "unfinished" : "a wrong byte");
     for (size_t i = 0; i < place; i++)
@@ -1484,6 +1589,8 @@ static void count_operand_place(const Byte *p, const Line *line, const Record *r
     unsigned at = operand_at(p, line);
     if (line->guarded && line->guard_text.at == place) {
         hit("place 5: %s guard", name);
+        if (line->guard.file == FILE_RS)
+            hit("place 5: %s guard a half", name);
     } else if (at == line->operands) {
         hit("place 5: %s end behind %u", name, at);
         hit("place 5: end, %s behind it", is_blank(*place) ? "blanks" : "no blank");
@@ -1496,7 +1603,9 @@ static void count_operand_place(const Byte *p, const Line *line, const Record *r
         if (at == (four ? 4u : 3u))
             hit("place 5: %s operand %u too many", name, at);
         else
-            hit("place 5: %s operand %u is %s", name, at, faults[o->form == NEGATED ? 0 : o->form == PAIR ? 1 : o->selector != 0 ? 5 : 2 + (unsigned)o->first.file]);
+            hit("place 5: %s operand %u is %s", name, at, faults[fault_of(o)]);
+        if (at < (four ? 4u : 3u) && is_half(rec->op == W_SET || rec->op == W_SETP ? rec->atype : rec->op >= W_SELP ? rec->dtype : W_NONE))
+            hit("place 5 with halves: %s operand %u is %s", spelling[rec->op], at, faults[fault_of(o)]);
     }
     for (unsigned i = 0; i < line->operands && i < OPERANDS_KEPT; i++) {
         const Operand *o = &line->operand[i];
@@ -1527,6 +1636,8 @@ static void count_number_place(const Byte *p, const Line *line, const Record *re
     hit(over > 1 && first != 3 ? "place 6: %s %s, and one behind it" : "place 6: %s %s", spelling[rec->op], roles[first]);
     if (first == 3 && line->operand[3].form == NEGATED)
         hit("place 6: %s !c", spelling[rec->op]);
+    if (first < 3 && line->operand[first].first.file == FILE_RS)
+        hit("place 6 of a half: %s %s", spelling[rec->op], roles[first]);
 }
 
 static void count_place(const Byte *p, size_t length, const Line *line, const Record *rec, Refusal refusal)
@@ -1620,7 +1731,7 @@ static void count_blanks(const Byte *p, size_t length)
 static void count_listing(const char *name)
 {
     static Byte input[INPUT_MOST + 1];
-    Machine m = { { 0 }, { 0 }, { 0 } };
+    Machine m;
     FILE *file = fopen(name, "rb");
     if (file == NULL)
         stop("cannot be read", name);
@@ -1630,10 +1741,7 @@ static void count_listing(const char *name)
         stop("too long", name);
     const Byte *p = input, *end = input + size;
     input[size] = '\n';
-    for (unsigned n = 0; n < R_COUNT; n++)
-        m.r[n] = start_r(n);
-    for (unsigned n = 0; n < RD_COUNT; n++)
-        m.rd[n] = start_rd(n);
+    start_machine(&m);
     while (p < end) {
         Line line;
         Record rec;
@@ -1734,6 +1842,7 @@ int main(int argc, char **argv)
     declare_values();
     declare_lane_arithmetic();
     declare_tiny_choices();
+    declare_halves();
     declare_places();
     read_tally(argv[1]);
     if (argc == 2)

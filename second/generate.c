@@ -87,7 +87,7 @@ static void emit_format(const char *format, ...)
 
 static unsigned hot[64];
 static unsigned hot_count;
-static unsigned last_source, last_double;
+static unsigned last_source, last_double, last_half;
 
 enum { EXTREMES = 6 };          /* the first hot ones: 0, 1, 1.0 and the extremes of a word */
 
@@ -170,6 +170,20 @@ static unsigned double_word(void)
 static unsigned destination_double(void)
 {
     return percent(90) ? 24 + below(8) : double_word();
+}
+
+/* Halves are only copied too. */
+static unsigned half_word(void)
+{
+    static const unsigned edges[] = { 0, 0, 1, 1, 15, 16, 31 };
+    if (!percent(12))           /* else the same again, so that halves are equal at times */
+        last_half = percent(25) ? PICK(edges) : below(32);
+    return last_half;
+}
+
+static unsigned destination_half(void)
+{
+    return percent(80) ? 24 + below(8) : half_word();
 }
 
 static unsigned predicate(void)
@@ -301,6 +315,15 @@ static const char *const lane_opcodes[] = { "vadd", "vsub", "vavrg", "vabsdiff",
 static const char *const parts[] = { "b0", "b1", "b2", "b3", "h0", "h1" };
 
 static bool is_wide(const char *type) { return type[1] == '6'; }
+static bool is_half(const char *type) { return type[1] == '1'; }
+
+/* Request T-06. How many typed drafts of a hundred are of 16 bits: none among the lines that are not made apart, which so stay as they were. */
+static unsigned half_chance;
+
+static const char *const half_types[] = { "b16", "u16", "s16" };
+
+static bool of_16_bits(void) { return half_chance > 0 && percent(half_chance); }
+static const char *some_type(void) { return of_16_bits() ? PICK(half_types) : PICK(types); }
 
 static void add_scalar_source(Draft *d)
 {
@@ -427,6 +450,8 @@ static void add_typed_sources(Draft *d, const char *type)
     for (int i = 0; i < 2; i++) {
         if (is_wide(type))
             add_operand(d, "%%rd%u", double_word());
+        else if (is_half(type))
+            add_operand(d, "%%rs%u", half_word());
         else                    /* of singles all pairs of classes should meet, so all hot ones are as likely */
             add_operand(d, "%%r%u", type[0] == 'f' && percent(60) ? hot_word() : source_word());
     }
@@ -434,7 +459,7 @@ static void add_typed_sources(Draft *d, const char *type)
 
 static void draft_set(Draft *d, bool setp)
 {
-    const char *type = percent(30) ? "f32" : PICK(types);
+    const char *type = of_16_bits() ? PICK(half_types) : percent(30) ? "f32" : PICK(types);
     add_name(d, setp ? "setp" : "set");
     switch (type[0]) {
     case 'b': add_name(d, cmp6[below(2)]); break;
@@ -478,13 +503,15 @@ static void add_typed_destination(Draft *d, const char *type)
 {
     if (is_wide(type))
         add_operand(d, "%%rd%u", destination_double());
+    else if (is_half(type))
+        add_operand(d, "%%rs%u", destination_half());
     else
         add_operand(d, "%%r%u", destination_word());
 }
 
 static void draft_selp(Draft *d)
 {
-    const char *type = PICK(types);
+    const char *type = some_type();
     add_name(d, "selp");
     add_name(d, type);
     add_typed_destination(d, type);
@@ -494,7 +521,7 @@ static void draft_selp(Draft *d)
 
 static void draft_slct(Draft *d)
 {
-    const char *type = PICK(types);
+    const char *type = some_type();
     bool single = percent(60);
     add_name(d, "slct");
     if (single && percent(45))
@@ -504,7 +531,7 @@ static void draft_slct(Draft *d)
     add_typed_destination(d, type);
     add_typed_sources(d, type);
     add_operand(d, "%%r%u", choice_word());
-    if (!is_wide(type) && percent(10))          /* c is copied, as it is */
+    if (type[1] == '3' && percent(10))          /* c is copied, as it is */
         memcpy(d->operand[1], d->operand[3], TEXT_MOST);
 }
 
@@ -735,7 +762,7 @@ static void spoil_guard(Draft *d)
 /* A guard that is no predicate. */
 static void wrong_guard(Draft *d, unsigned numbers)
 {
-    const char *sign = some_sign(), *file = percent(50) ? "rd" : "r";
+    const char *sign = some_sign(), *file = of_16_bits() ? "rs" : percent(50) ? "rd" : "r";
     snprintf(d->guard, TEXT_MOST, "@%s%%%s%u", sign, file, below(numbers));
 }
 
@@ -1026,7 +1053,7 @@ static void crowded(Line *line)
 
 /* ---- lines refused at each of their pieces (request T-05) ---- */
 
-enum { OPCODES = 24, PIECES = 47, SPELLED = 7, CLASSES = 19 };
+enum { OPCODES = 24, PIECES = 47, SPELLED = 7, CLASSES = 20 };
 
 /* A legal draft of each opcode as likely. */
 static void draft_opcode(Draft *d, unsigned which)
@@ -1052,15 +1079,18 @@ static void draft_opcode(Draft *d, unsigned which)
     }
 }
 
+static bool halves_alone;       /* no register of another file (request T-06) */
+
 /* A register up to: 0 `%`, 1 `%r`, 2 the file, 3 the number 0, 4 to 6 a number of one to three digits. */
 static void put_register_start(Line *line, unsigned spelled)
 {
-    static const char *const files[] = { "%r", "%rd", "%p" };
+    static const char *const files[] = { "%r", "%rs", "%rd", "%p" };
+    const char *file = halves_alone ? "%rs" : PICK(files);
     char digits[4] = "";
     switch (spelled) {
     case 0: put_bytes(line, "%"); return;
     case 1: put_bytes(line, "%r"); return;
-    case 2: put_bytes(line, files[1 + below(2)]); return;
+    case 2: put_bytes(line, halves_alone ? "%rs" : files[1 + below(3)]); return;
     case 3: digits[0] = '0'; break;
     default:
         digits[0] = (char)('1' + below(9));
@@ -1068,7 +1098,7 @@ static void put_register_start(Line *line, unsigned spelled)
             digits[i] = (char)('0' + below(10));
         break;
     }
-    put_bytes(line, PICK(files));
+    put_bytes(line, file);
     put_bytes(line, digits);
 }
 
@@ -1193,23 +1223,23 @@ static void begin_at(Line *line, unsigned piece)
 
 static Byte byte_of_class(unsigned class)
 {
-    static const char single[] = " \t0rdpxX.,;|_!@%";
-    static const char letters[] = "abcefghijklmnoqstuvwxyz", marks[] = "#$&'()*+-/:<=>?[\\]^`{}~\"";
+    static const char single[] = " \t0rsdpxX.,;|_!@%";
+    static const char letters[] = "abcefghijklmnoqtuvwxyz", marks[] = "#$&'()*+-/:<=>?[\\]^`{}~\"";
     switch (class) {
     case 2: return (Byte)('0' + below(10));
-    case 6: return (Byte)letters[below(sizeof letters - 1)];
-    case 7: return (Byte)('A' + below(26));
-    case 16: return (Byte)marks[below(sizeof marks - 1)];
-    case 17: { Byte b = (Byte)below(33); return b == '\n' || b == '\t' || b == ' ' ? (Byte)(percent(50) ? 0x7F : '\r') : b; }
-    case 18: return (Byte)(128 + below(128));
+    case 7: return (Byte)letters[below(sizeof letters - 1)];
+    case 8: return (Byte)('A' + below(26));
+    case 17: return (Byte)marks[below(sizeof marks - 1)];
+    case 18: { Byte b = (Byte)below(33); return b == '\n' || b == '\t' || b == ' ' ? (Byte)(percent(50) ? 0x7F : '\r') : b; }
+    case 19: return (Byte)(128 + below(128));
     default: return (Byte)single[class];
     }
 }
 
-/* A beginning of each kind as likely, and often a byte behind it, of each class as likely. */
-static void broken_shape(Line *line)
+/* A beginning up to the piece, and often a byte behind it, of each class as likely. */
+static void broken_shape(Line *line, unsigned piece)
 {
-    begin_at(line, below(PIECES));
+    begin_at(line, piece);
     if (!percent(12)) {
         insert_byte(line, line->length, byte_of_class(below(CLASSES)));
         if (percent(40)) {
@@ -1234,7 +1264,8 @@ static const char *const other_cmps[] = { "lo", "ls", "hi", "hs", "equ", "neu", 
 
 static const char *word_of_class(void)
 {
-    switch (below(10)) {
+    switch (below(11)) {
+    case 10: return PICK(half_types);
     case 0: return PICK(video_types);
     case 1: return PICK(other_types);
     case 2: return PICK(cmp6);
@@ -1244,7 +1275,7 @@ static const char *word_of_class(void)
     case 6: return "sat";
     case 7: return "ftz";
     case 8: return PICK(scalar_opcodes);
-    default: return percent(50) ? "x" : percent(50) ? "u16" : "u3";
+    default: return percent(50) ? "x" : percent(50) ? "f16" : "u3";
     }
 }
 
@@ -1262,7 +1293,7 @@ static void any_comparison(Draft *d)
         add_name(d, "ftz");
     if (!setp)
         add_name(d, percent(50) ? PICK(video_types) : "f32");
-    add_name(d, PICK(types));
+    add_name(d, some_type());
 }
 
 /* The longest list of modifiers of the opcode, and one more word. */
@@ -1286,7 +1317,7 @@ static void one_too_many(Draft *d, unsigned which)
     if (which == 20)
         add_name(d, PICK(video_types));
     if (which >= 22)
-        add_name(d, PICK(types));
+        add_name(d, some_type());
     if (which >= 20 && which != 22)
         add_name(d, "f32");
     add_name(d, word_of_class());
@@ -1327,7 +1358,7 @@ static void miss_modifiers(Draft *d)
 static void put_over(char *text, unsigned chance)
 {
     static const char *const r[] = { "64", "65", "99", "100", "128", "255", "999" };
-    static const char *const rd[] = { "32", "33", "63", "64", "100", "999" };
+    static const char *const rd[] = { "32", "33", "63", "64", "100", "999" };       /* and of %rs */
     static const char *const p[] = { "16", "17", "31", "32", "64", "100", "999" };
     char made[2 * TEXT_MOST];
     size_t length = 0;
@@ -1336,8 +1367,8 @@ static void put_over(char *text, unsigned chance)
             made[length++] = *from++;
             continue;
         }
-        const char *number = from[1] == 'p' ? PICK(p) : from[2] == 'd' ? PICK(rd) : PICK(r);
-        int file = from[2] == 'd' ? 3 : 2;
+        int file = from[2] == 'd' || from[2] == 's' ? 3 : 2;
+        const char *number = from[1] == 'p' ? PICK(p) : file == 3 ? PICK(rd) : PICK(r);
         length += (size_t)snprintf(made + length, 8, "%.*s%s", file, from, number);
         for (from += file; *from >= '0' && *from <= '9'; from++)
             continue;
@@ -1347,23 +1378,29 @@ static void put_over(char *text, unsigned chance)
 }
 
 /* An operand of one kind: negated, a pair, one of each file, with a selector. */
+enum { OPERAND_KINDS = 7 };
+
 static void operand_of_kind(char *to, unsigned kind)
 {
     unsigned n = below(16), m = (n + 1) % 16;
-    static const char *const pairs[] = { "%%p%u|%%p%u", "%%r%u|%%r%u", "%%p%u|%%r%u", "%%r%u|%%p%u", "%%p%u|_", "%%rd%u|_", "_|%%p%u", "_|%%rd%u", "_|_" };
+    static const char *const pairs[] = {
+        "%%p%u|%%p%u", "%%r%u|%%r%u", "%%p%u|%%r%u", "%%r%u|%%p%u", "%%p%u|_", "%%rd%u|_", "_|%%p%u", "_|%%rd%u", "_|_",
+        "%%rs%u|%%rs%u", "%%p%u|%%rs%u", "%%rs%u|%%p%u", "%%rs%u|_", "_|%%rs%u"
+    };
     switch (kind) {
-    case 0: snprintf(to, TEXT_MOST, percent(50) ? "!%%p%u" : percent(70) ? "!%%r%u" : "!%%rd%u", n); break;
+    case 0: snprintf(to, TEXT_MOST, percent(50) ? "!%%p%u" : percent(50) ? "!%%r%u" : percent(50) ? "!%%rs%u" : "!%%rd%u", n); break;
     case 1: {
         const char *pair = PICK(pairs);
         snprintf(to, TEXT_MOST, pair, n, m);
         break;
     }
     case 2: snprintf(to, TEXT_MOST, "%%r%u", n); break;
-    case 3: snprintf(to, TEXT_MOST, "%%rd%u", n); break;
-    case 4: snprintf(to, TEXT_MOST, "%%p%u", n); break;
+    case 3: snprintf(to, TEXT_MOST, "%%rs%u", n); break;
+    case 4: snprintf(to, TEXT_MOST, "%%rd%u", n); break;
+    case 5: snprintf(to, TEXT_MOST, "%%p%u", n); break;
     default: {
         const char *selector = PICK(any_selectors);
-        snprintf(to, TEXT_MOST, percent(80) ? "%%r%u.%.20s" : percent(50) ? "%%rd%u.%.20s" : "%%p%u.%.20s", n, selector);
+        snprintf(to, TEXT_MOST, percent(70) ? "%%r%u.%.20s" : percent(40) ? "%%rs%u.%.20s" : percent(50) ? "%%rd%u.%.20s" : "%%p%u.%.20s", n, selector);
         break;
     }
     }
@@ -1372,7 +1409,7 @@ static void operand_of_kind(char *to, unsigned kind)
 static void wrong_operand(Draft *d)
 {
     unsigned at = below(d->operands);
-    operand_of_kind(d->operand[at], below(6));
+    operand_of_kind(d->operand[at], below(OPERAND_KINDS));
 }
 
 static void draft_guard(Draft *d)
@@ -1401,7 +1438,7 @@ static void miss_operands(Draft *d)
         d->operands = 1 + below(d->operands - 1);
     } else if (kind < 26) {
         for (unsigned n = 1 + below(2); n > 0 && d->operands < OPERANDS_MOST; n--)
-            operand_of_kind(d->operand[d->operands++], percent(50) ? 2 : below(6));
+            operand_of_kind(d->operand[d->operands++], percent(50) ? 2 : below(OPERAND_KINDS));
     } else if (kind < 86) {
         wrong_operand(d);
         if (percent(10))                        /* another behind it, or in front */
@@ -1460,9 +1497,10 @@ static void emit_place_line(void)
     uint64_t kept_state = state;
     unsigned kept_source = last_source, kept_double = last_double;
     state = place_state;
+    half_chance = 25;
     unsigned kind = below(100);
     if (kind < 30) {
-        broken_shape(&line);
+        broken_shape(&line, below(PIECES));
     } else {
         if (kind < 61)      miss_modifiers(&draft);
         else if (kind < 89) miss_operands(&draft);
@@ -1475,6 +1513,7 @@ static void emit_place_line(void)
         else
             render_some_way(&draft, &line);
     }
+    half_chance = 0;
     place_state = state;
     state = kept_state;
     last_source = kept_source;
@@ -1482,14 +1521,102 @@ static void emit_place_line(void)
     emit(line.bytes, line.length);
 }
 
-static bool is_place_line(void)
+/* Whether a line of the stream stands in front of the next other one. */
+static bool is_due(uint64_t *stream, unsigned chance)
 {
     uint64_t kept_state = state;
-    state = place_state;
-    bool yes = percent(24);
-    place_state = state;
+    state = *stream;
+    bool yes = below(100) < chance;
+    *stream = state;
     state = kept_state;
     return yes;
+}
+
+/* ---- lines with halves (request T-06) ---- */
+
+/* A type of 16 bits where none may stand, or one that may with what does not go with it. */
+static void miss_half_modifiers(Draft *d)
+{
+    unsigned kind = below(100);
+    const char *type = PICK(half_types);
+    if (kind < 55) {
+        draft_opcode(d, 20 + below(2));
+        any_comparison(d);
+    } else if (kind < 75) {                     /* in a video head */
+        draft_opcode(d, below(20));
+        snprintf(d->name[1 + below(d->names - 1)], TEXT_MOST, "%s", type);
+    } else {                                    /* set's dtype, c of slct, one too many, or nothing wrong */
+        draft_opcode(d, 20 + below(4));
+        if (percent(70))
+            snprintf(d->name[1 + below(d->names - 1)], TEXT_MOST, "%s", type);
+        else
+            add_name(d, percent(50) ? type : word_of_class());
+    }
+}
+
+/* A wrong operand under a type of 16 bits, or a half under another one. */
+static void miss_half_operands(Draft *d)
+{
+    unsigned kind = below(100);
+    if (kind < 68) {
+        draft_opcode(d, 20 + below(4));
+        wrong_operand(d);
+    } else if (kind < 80) {
+        draft_opcode(d, below(OPCODES));
+        wrong_guard(d, percent(80) ? 32 : 100);
+    } else {
+        half_chance = 0;
+        draft_opcode(d, percent(50) ? 20 + below(4) : below(OPCODES));
+        half_chance = 100;
+        unsigned at = below(d->operands);
+        snprintf(d->operand[at], TEXT_MOST, "%%rs%u", below(32));
+    }
+    if (percent(15))
+        put_over(d->operand[below(d->operands)], 80);
+    if (percent(8))
+        d->operands = 1 + below(d->operands);
+}
+
+/* A register of the file up to some piece of it: as guard, behind `!`, as first place, as second place. */
+static unsigned piece_of_half(void)
+{
+    static const unsigned percents[] = { 4, 18, 25, 34 };
+    unsigned percent_piece = PICK(percents);
+    return percent_piece + 2 + below(SPELLED - 2);
+}
+
+/* These lines have a stream of their own as well; but what they write, the other lines read. */
+static uint64_t half_state;
+
+static void emit_half_line(bool choice)
+{
+    Draft draft;
+    Line line;
+    uint64_t kept_state = state;
+    unsigned kept_source = last_source, kept_double = last_double;
+    state = half_state;
+    half_chance = 100;
+    unsigned kind = choice ? 0 : below(100);
+    if (kind >= 86) {
+        halves_alone = true;
+        broken_shape(&line, piece_of_half());
+        halves_alone = false;
+    } else {
+        if (choice)         draft_opcode(&draft, 22 + (percent(85) ? 1 : 0));
+        else if (kind < 48) draft_opcode(&draft, 20 + below(4));
+        else if (kind < 60) miss_half_modifiers(&draft);
+        else if (kind < 80) miss_half_operands(&draft);
+        else                miss_numbers(&draft);
+        if (draft.guard[0] == '\0' && percent(choice ? 5 : 20))
+            draft_guard(&draft);
+        render_some_way(&draft, &line);
+    }
+    half_chance = 0;
+    half_state = state;
+    state = kept_state;
+    last_source = kept_source;
+    last_double = kept_double;
+    emit(line.bytes, line.length);
 }
 
 /* ---- the whole ---- */
@@ -1571,7 +1698,7 @@ static void emit_line(void)
 }
 
 /* The last bytes of a listing are choices of slct, which so are left to the end, where a wrong one is printed. */
-enum { CHOICES = 300 };
+enum { CHOICES = 450 };
 
 static void emit_choice(void)
 {
@@ -1591,6 +1718,7 @@ int main(int argc, char **argv)
     }
     state = strtoull(argv[1], NULL, 0) * UINT64_C(0xD1342543DE82EF95) + 1;
     place_state = ~state;
+    half_state = state ^ UINT64_C(0x5555555555555555);
     unsigned long long bytes = strtoull(argv[2], NULL, 0);
     limit = bytes < LISTING_MOST ? (size_t)bytes : LISTING_MOST;
     if (limit == 0)
@@ -1608,9 +1736,12 @@ int main(int argc, char **argv)
             emit_kit();
         else if (below(40) == 0)
             emit_predicates();
-        if (limit >= 4000 && limit - used >= CHOICES && is_place_line())
+        bool last = limit >= 4000 && limit - used < CHOICES;
+        if (limit >= 4000 && !last && is_due(&place_state, 24))
             emit_place_line();
-        if (limit >= 4000 && limit - used < CHOICES)
+        if (limit >= 4000 && is_due(&half_state, last ? 50 : 17))
+            emit_half_line(last);
+        if (last)
             emit_choice();
         else
             emit_line();

@@ -8,7 +8,8 @@ use lib.ListN.{length, getD, length-append}
 use Rattle.signs.specs.Text.{bytes}
 use Rattle.signs.specs.Lists.{Listed}
 use Rattle.signs.specs.Lists.Listed.{here as listed-here, later as listed-later}
-use Rattle.record.specs.Registers.{Place, word, double, pred, Inside, numberOf, fileSize}
+use Rattle.record.specs.declared.File.the-variants.{Words, Halves, Doubles, Preds}
+use Rattle.record.specs.Registers.{Place, reg, Inside, numberOf, fileSize}
 use Rattle.rules.specs.Shape.{Name, dotted, headText, registerText, Spot, at, nothing, spotText, OperandTree, inverted, pair, bare, part, operandText, guardText}
 use Rattle.rules.specs.Grammar.{LineTree, GuardTree, unguarded, guarded, guardTreeText, Divided, dividedText, lineText, namesOf, operandsOf, Shaped}
 use Rattle.rules.specs.BytePlaces.{guardStart, headStart, nameStart, operandsStart, toNextOperand, operandStart, Register, after, spotRegisters, operandRegisters, operandsRegisters, guardRegisters, registersOf, FirstOutside, here, later}
@@ -170,9 +171,10 @@ within : (a : ℕ) (rs : List Register) (m k : ℕ) → a + m ≤ k → Rising m
 within a rs m k h x = rising-to (after a rs) (a + m) k a h (rising-from (after a rs) (a + m) (a + 0) a (omega arith) (rising-after a rs m 0 x))
 
 some-text : (q : Place) → 0 < length (registerText q)
-some-text (word n) = omega arith
-some-text (double n) = omega arith
-some-text (pred n) = omega arith
+some-text (reg Words n) = omega arith
+some-text (reg Halves n) = omega arith
+some-text (reg Doubles n) = omega arith
+some-text (reg Preds n) = omega arith
 
 one-rising : (q : Place) → Rising (length (registerText q)) 0 ((0, q) ∷ [])
 one-rising q = (omega arith, some-text q)

@@ -32,7 +32,7 @@ read-asks-nothing κs a = tt
 pub write-asks-nothing : (κs : Lfts 1) (a : Dens κs write-kinds.ps) → write.Pre κs a
 write-asks-nothing κs a = tt
 
-pub execute-asks-nothing : (κs : Lfts 3) (a : Dens κs execute-kinds.ps) → execute.Pre κs a
+pub execute-asks-nothing : (κs : Lfts 4) (a : Dens κs execute-kinds.ps) → execute.Pre κs a
 execute-asks-nothing κs a = tt
 
 -- the answer and the memory at exit
@@ -44,9 +44,10 @@ pub write-demanded : (κs : Lfts 1) (a : Dens κs write-kinds.ps) (x : Written) 
     → write.Post κs a x s → WrittenAsDemanded (a .0) (now (a .1 .0)) (writing.answerOf x) (now (s .1 .0))
 write-demanded κs a x s h = written-as-demanded (a .0) (now (a .1 .0)) (writing.answerOf x) (now (s .1 .0)) h
 
-pub execute-demanded : (κs : Lfts 3) (a : Dens κs execute-kinds.ps) (x : Executed) (s : AtExit (endedOf 3 execute-kinds.ps execute-kinds.r) κs)
+pub execute-demanded : (κs : Lfts 4) (a : Dens κs execute-kinds.ps) (x : Executed) (s : AtExit (endedOf 4 execute-kinds.ps execute-kinds.r) κs)
     → execute.Post κs a x s
-    → ExecutedAsDemanded (a .0) (files (now (a .1 .0)) (now (a .1 .1 .0)) (now (a .1 .1 .1 .0))) (executing.answerOf x) (files (now (s .1 .0)) (now (s .1 .1 .0)) (now (s .1 .1 .1 .0)))
+    → ExecutedAsDemanded (a .0) (files (now (a .1 .0)) (now (a .1 .1 .0)) (now (a .1 .1 .1 .0)) (now (a .1 .1 .1 .1 .0))) (executing.answerOf x)
+    (files (now (s .1 .0)) (now (s .1 .1 .0)) (now (s .1 .1 .1 .0)) (now (s .1 .1 .1 .1 .0)))
 execute-demanded κs a x s h = executed-as-demanded (a .0) _ (executing.answerOf x) _ h
 
 -- reading the line that was written gives the record again: the first n bytes of the buffer, where `write` answered n

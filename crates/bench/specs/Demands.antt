@@ -144,22 +144,22 @@ module _ (x : Record) (f : Files) (legal : Legal x) (admitted : Admitted f) (gua
 
   -- setp writes BoolOp(t, c) to the first place, BoolOp(not t, c) to the second, of the predicates before either is written
   module _ (a b : Pred) (s : Comparison) (is : x .instruction ≡ Setp (Pair a b) s) where
-    pub first-place : at (run x f .files) (p a) ≡ bit (combinedOf (f .preds) (s .combination) (testOf (f .words) (f .doubles) s))
+    pub first-place : at (run x f .files) (p a) ≡ bit (combinedOf (f .preds) (s .combination) (testOf f s))
     first-place = runs.first-place x f legal admitted guard a b s is
 
-    pub second-place : at (run x f .files) (p b) ≡ bit (combinedOf (f .preds) (s .combination) (not (testOf (f .words) (f .doubles) s)))
+    pub second-place : at (run x f .files) (p b) ≡ bit (combinedOf (f .preds) (s .combination) (not (testOf f s)))
     second-place = runs.second-place x f legal admitted guard a b s is
 
   -- (one predicate gets what the first place of a pair gets; `_` drops one)
   module _ (a : Pred) (s : Comparison) where
-    pub one-alone : x .instruction ≡ Setp (One a) s → at (run x f .files) (p a) ≡ bit (combinedOf (f .preds) (s .combination) (testOf (f .words) (f .doubles) s))
+    pub one-alone : x .instruction ≡ Setp (One a) s → at (run x f .files) (p a) ≡ bit (combinedOf (f .preds) (s .combination) (testOf f s))
     one-alone is = runs.one-holds x f legal admitted guard a s is
 
-    pub first-alone : x .instruction ≡ Setp (First a) s → at (run x f .files) (p a) ≡ bit (combinedOf (f .preds) (s .combination) (testOf (f .words) (f .doubles) s))
+    pub first-alone : x .instruction ≡ Setp (First a) s → at (run x f .files) (p a) ≡ bit (combinedOf (f .preds) (s .combination) (testOf f s))
     first-alone is = runs.first-holds x f legal admitted guard a s is
 
     pub second-alone : x .instruction ≡ Setp (Second a) s
-        → at (run x f .files) (p a) ≡ bit (combinedOf (f .preds) (s .combination) (not (testOf (f .words) (f .doubles) s)))
+        → at (run x f .files) (p a) ≡ bit (combinedOf (f .preds) (s .combination) (not (testOf f s)))
     second-alone is = runs.second-holds x f legal admitted guard a s is
 
 -- a legal record names only places in their files: its guard's, its destinations, its sources

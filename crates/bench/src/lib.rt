@@ -28,8 +28,14 @@ pub fn write(r: Record, buf: &mut [u8]) -> Written
 }
 
 // The record executed on the files, or skipped; or 8, 10 or 11, and the files as they were.
-pub fn execute(r: Record, words: &mut [u32], doubles: &mut [u64], preds: &mut [u8]) -> Executed
-    ensures { λ a. ⌜ executing.outcome (executed.answerOf a) (files (now (words .exit)) (now (doubles .exit)) (now (preds .exit))) ≡ run r (files (now (words .entry)) (now (doubles .entry)) (now (preds .entry))) ⌝ }
+pub fn execute(
+    r: Record,
+    words: &mut [u32],
+    halves: &mut [u16],
+    doubles: &mut [u64],
+    preds: &mut [u8],
+) -> Executed
+    ensures { λ a. ⌜ executing.outcome (executed.answerOf a) (files (now (words .exit)) (now (halves .exit)) (now (doubles .exit)) (now (preds .exit))) ≡ run r (files (now (words .entry)) (now (halves .entry)) (now (doubles .entry)) (now (preds .entry))) ⌝ }
 {
-    execute::execute(r, words, doubles, preds)
+    execute::execute(r, words, halves, doubles, preds)
 }

@@ -12,16 +12,16 @@ use lib.Dec.{ltb, eqb}
 use borrow.Author.Tests.{lt-ltb, le-ltb}
 use Rattle.signs.specs.Lists.{tab}
 use Rattle.signs.specs.Text.{bytes}
-use Rattle.record.specs.Registers.{wordCount, doubleCount, predCount, Files, at}
-use Rattle.rules.specs.Shape.{digit, numberText, registerText}
+use Rattle.record.specs.Registers.{wordCount, halfCount, doubleCount, predCount, countOf, Files, reg, at}
+use Rattle.rules.specs.Shape.{digit, numberText, fileText, registerText}
 use Rattle.text.specs.Buffer.{Buffer, buffer, filled, Puts, whole-front}
 use Rattle.signs.specs.Digits.{decimal, hex}
 use Rattle.text.specs.DigitLaws.{one-digit, more-digits, hex-length}
 use Rattle.signs.specs.Bytes.{lineFeed}
 use Rattle.changes.specs.Changes.{startValue, digitsOf, valueText, changeText, changesText, registersText}
-use Rattle.changes.specs.Registers.{placeOf, countOf, prefixOf, valueRoom, registersRoom, printed-bytes, printOutcome, printing}
+use Rattle.changes.specs.Registers.{valueRoom, registersRoom, printed-bytes, printOutcome, printing}
 use Rattle.record.specs.declared.File.{File}
-use Rattle.record.specs.declared.File.the-variants.{Words, Doubles, Preds}
+use Rattle.record.specs.declared.File.the-variants.{Words, Halves, Doubles, Preds}
 
 -- ==== a register
 
@@ -36,28 +36,22 @@ decimal-number n h = by-size (decLt n 10)
         let m : n / 10 < 10 = omega arith in
         rw (le-ltb n 10 k, lt-ltb n 100 h) (more-digits n k ∙ rw (one-digit (n / 10) m) (ap (λ (d : ℕ). d ∷ digit n ∷ []) (omega arith)))
 
-register-text : (file : File) (k : ℕ) → k < 100 → prefixOf file ++ decimal k ≡ registerText (placeOf file k)
-register-text Words k h = ap (λ (t : List ℕ). bytes "%r" ++ t) (decimal-number k h)
-register-text Doubles k h = ap (λ (t : List ℕ). bytes "%rd" ++ t) (decimal-number k h)
-register-text Preds k h = ap (λ (t : List ℕ). bytes "%p" ++ t) (decimal-number k h)
+register-text : (file : File) (k : ℕ) → k < 100 → fileText file ++ decimal k ≡ registerText (reg file k)
+register-text file k h = ap (λ (t : List ℕ). fileText file ++ t) (decimal-number k h)
 
 pub below-100 : (file : File) (k : ℕ) → k < countOf file → k < 100
 below-100 Words k h = omega arith
+below-100 Halves k h = omega arith
 below-100 Doubles k h = omega arith
 below-100 Preds k h = omega arith
 
-same-digits : (file : File) (k : ℕ) → digitsOf (placeOf file 0) ≡ digitsOf (placeOf file k)
-same-digits Words k = refl
-same-digits Doubles k = refl
-same-digits Preds k = refl
-
-pub value-put : {d : ℕ} {x y : Buffer} (file : File) (k v : ℕ) → k < 100 → d ≡ digitsOf (placeOf file 0)
-    → Puts x (prefixOf file ++ decimal k ++ bytes " " ++ hex d v ++ (lineFeed ∷ [])) y → Puts x (valueText (placeOf file k) v) y
+pub value-put : {d : ℕ} {x y : Buffer} (file : File) (k v : ℕ) → k < 100 → d ≡ digitsOf file
+    → Puts x (fileText file ++ decimal k ++ bytes " " ++ hex d v ++ (lineFeed ∷ [])) y → Puts x (valueText (reg file k) v) y
 value-put {d} {x} {y} file k v h e a =
     record {
       text = a .text
           ∙ ap (λ (t : List ℕ). filled x (t ++ bytes " " ++ hex d v ++ (lineFeed ∷ []))) (register-text file k h)
-          ∙ ap (λ (m : ℕ). filled x (registerText (placeOf file k) ++ bytes " " ++ hex m v ++ (lineFeed ∷ []))) (e ∙ same-digits file k);
+          ∙ ap (λ (m : ℕ). filled x (registerText (reg file k) ++ bytes " " ++ hex m v ++ (lineFeed ∷ []))) e;
     }
 
 -- ==== all registers
@@ -69,31 +63,32 @@ number-short n h = go (ltb n 10) refl
     go true e = omega arith
     go false e = rw (lt-ltb n 100 h) (omega arith)
 
-value-short : (file : File) (k v : ℕ) → k < 100 → length (valueText (placeOf file k) v) ≤ valueRoom
+value-short : (file : File) (k v : ℕ) → k < 100 → length (valueText (reg file k) v) ≤ valueRoom
 value-short Words k v h = simp (length-append, hex-length) (omega (arith, number-short k h))
+value-short Halves k v h = simp (length-append, hex-length) (omega (arith, number-short k h))
 value-short Doubles k v h = simp (length-append, hex-length) (omega (arith, number-short k h))
 value-short Preds k v h = simp (length-append, hex-length) (omega (arith, number-short k h))
 
-change-short : (file : File) (k v : ℕ) → k < 100 → length (changeText (placeOf file k) v) ≤ valueRoom
+change-short : (file : File) (k v : ℕ) → k < 100 → length (changeText (reg file k) v) ≤ valueRoom
 unfolding changeText
-change-short file k v h = go (eqb v (startValue (placeOf file k)))
+change-short file k v h = go (eqb v (startValue (reg file k)))
   where
-    go : (t : Bool) → length (cond t [] (valueText (placeOf file k) v)) ≤ valueRoom
+    go : (t : Bool) → length (cond t [] (valueText (reg file k) v)) ≤ valueRoom
     go true = omega arith
     go false = value-short file k v h
 
-changes-short : (file : File) (k : ℕ) (f : Files) → k ≤ 100 → length (changesText (placeOf file) k f) ≤ k * valueRoom
+changes-short : (file : File) (k : ℕ) (f : Files) → k ≤ 100 → length (changesText file k f) ≤ k * valueRoom
 unfolding changesText
 changes-short file zero f h = omega arith
 changes-short file (suc k) f h =
     let a = changes-short file k f (omega arith) in
-    simp length-append (omega (arith, a, change-short file k (at f (placeOf file k)) (omega arith)))
+    simp length-append (omega (arith, a, change-short file k (at f (reg file k)) (omega arith)))
 
 registers-short : (f : Files) → length (registersText f) ≤ registersRoom
 unfolding registersText
 registers-short f =
     simp length-append
-    (omega (arith, changes-short Words wordCount f (omega arith), changes-short Doubles doubleCount f (omega arith), changes-short Preds predCount f (omega arith)))
+    (omega (arith, changes-short Words wordCount f (omega arith), changes-short Halves halfCount f (omega arith), changes-short Doubles doubleCount f (omega arith), changes-short Preds predCount f (omega arith)))
 
 pub registers-printed : (f : Files) {out after : List ℕ} {n : ℕ} → registersRoom ≤ length out → Puts (buffer out 0) (registersText f) (buffer after n)
     → printOutcome (printed-bytes n) after ≡ printing f out

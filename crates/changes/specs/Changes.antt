@@ -6,7 +6,9 @@ use lib.Dec.{eqb}
 use Rattle.signs.specs.Lists.{tab}
 use Rattle.signs.specs.Bytes.{lineFeed}
 use Rattle.signs.specs.Text.{bytes}
-use Rattle.record.specs.Registers.{wordCount, doubleCount, predCount, Files, files, Place, word, double, pred, at}
+use Rattle.record.specs.declared.File.{File}
+use Rattle.record.specs.declared.File.the-variants.{Words, Halves, Doubles, Preds}
+use Rattle.record.specs.Registers.{countOf, Files, files, Place, reg, at}
 use Rattle.rules.specs.Shape.{registerText}
 use Rattle.signs.specs.Digits.{hex}
 
@@ -14,32 +16,41 @@ use Rattle.signs.specs.Digits.{hex}
 abbrev pub wordStep : ℕ
 wordStep = 0x01010101
 
--- At the start `%rN` is N times 01010101 hex, `%rdN` is N, predicates 0
+-- At the start `%rN` is N times 01010101 hex, `%rdN` is N, predicates 0. T-06: the listing starts `%rsN` at N
 abbrev pub startValue : Place → ℕ
-startValue (word n) = n * wordStep
-startValue (double n) = n
-startValue (pred n) = 0
+startValue (reg Words n) = n * wordStep
+startValue (reg Halves n) = n
+startValue (reg Doubles n) = n
+startValue (reg Preds n) = 0
+
+abbrev pub startFile : File → List ℕ
+startFile file = tab (countOf file) (λ n. startValue (reg file n))
 
 unfoldable pub startFiles : Files
-startFiles = files (tab wordCount (λ n. startValue (word n))) (tab doubleCount (λ n. startValue (double n))) (tab predCount (λ n. startValue (pred n)))
+startFiles = files (startFile Words) (startFile Halves) (startFile Doubles) (startFile Preds)
 
--- `%r` (8 hex digits, capitals), `%rd` (16), `%p`
-abbrev pub digitsOf : Place → ℕ
-digitsOf (word n) = 8
-digitsOf (double n) = 16
-digitsOf (pred n) = 1
+-- `%r` (8 hex digits, capitals), `%rd` (16), `%p`. T-06: 4 digits
+abbrev pub digitsOf : File → ℕ
+digitsOf Words = 8
+digitsOf Halves = 4
+digitsOf Doubles = 16
+digitsOf Preds = 1
 
 abbrev pub valueText : Place → ℕ → List ℕ
-valueText p v = registerText p ++ bytes " " ++ hex (digitsOf p) v ++ (lineFeed ∷ [])
+valueText (reg file n) v = registerText (reg file n) ++ bytes " " ++ hex (digitsOf file) v ++ (lineFeed ∷ [])
 
 -- the registers whose value differs from the start
 unfoldable pub changeText : Place → ℕ → List ℕ
 changeText p v = cond (eqb v (startValue p)) [] (valueText p v)
 
 -- the first k registers of a file, numbers rising
-unfoldable pub changesText : (ℕ → Place) → ℕ → Files → List ℕ
+unfoldable pub changesText : File → ℕ → Files → List ℕ
 changesText file zero f = []
-changesText file (suc k) f = changesText file k f ++ changeText (file k) (at f (file k))
+changesText file (suc k) f = changesText file k f ++ changeText (reg file k) (at f (reg file k))
 
+abbrev pub fileChanges : File → Files → List ℕ
+fileChanges file f = changesText file (countOf file) f
+
+-- T-06: between `%r` and `%rd`
 unfoldable pub registersText : Files → List ℕ
-registersText f = changesText word wordCount f ++ changesText double doubleCount f ++ changesText pred predCount f
+registersText f = fileChanges Words f ++ fileChanges Halves f ++ fileChanges Doubles f ++ fileChanges Preds f

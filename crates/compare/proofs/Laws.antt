@@ -11,7 +11,7 @@ use lib.Ieee.Bits.{nanBits-is, nanBits-above}
 use lib.Ieee.Compare.{differs-from-itself, nan-differs}
 use borrow.Author.Tests.{lt-ltb, le-ltb, le-leb, lt-leb, ltb-true, ltb-false}
 use Rattle.record.specs.declared.DataType.{DataType}
-use Rattle.record.specs.declared.DataType.the-variants.{B32, B64, U32, U64, S32, S64, F32, F64}
+use Rattle.record.specs.declared.DataType.the-variants.{B16, B32, B64, U16, U32, U64, S16, S32, S64, F32, F64}
 use Rattle.record.specs.declared.Cmp6.{Cmp6}
 use Rattle.record.specs.declared.Cmp6.the-variants.{Eq, Ne, Lt, Le, Gt, Ge}
 use Rattle.record.specs.declared.CmpU.the-variants.{Lo, Ls, Hi, Hs}
@@ -20,7 +20,7 @@ use Rattle.record.specs.declared.CmpOp
 use Rattle.record.specs.declared.CmpOp.{CmpOp}
 use Rattle.base.specs.Tests.{leb-not}
 use Rattle.base.specs.Moved.{un, un-high, un-up, un-down, un-lt, un-le, un-eq}
-use Rattle.rules.specs.Numbers.{wordSize, exactOf, holdsZ}
+use Rattle.rules.specs.Numbers.{wordSize, halfSize, exactOf, holdsZ}
 use Rattle.laws.specs.FloatOrder.{only-nan}
 use Rattle.rules.specs.Execution.{valueOf, wholeHolds, floatHolds, comparisonOf}
 use Rattle.compare.specs.Mirror.{movedOf, comparedOf, sixFrom, wholesHold, floatFrom, comparedHold}
@@ -123,10 +123,13 @@ module _ (op : CmpOp) where
 
   pub compared-is : (t : DataType) (ftz : Bool) (x y : ℕ) → comparedHold op (comparedOf t ftz x) (comparedOf t ftz y) ≡ comparisonOf op ftz t x y
   unfolding comparedHold comparedOf comparisonOf valueOf
+  compared-is B16 ftz x y = plain halfSize (x % halfSize) (y % halfSize)
   compared-is B32 ftz x y = plain wordSize (x % wordSize) (y % wordSize)
   compared-is B64 ftz x y = plain (2 ^ 64) x y
+  compared-is U16 ftz x y = plain halfSize (x % halfSize) (y % halfSize)
   compared-is U32 ftz x y = plain wordSize (x % wordSize) (y % wordSize)
   compared-is U64 ftz x y = plain (2 ^ 64) x y
+  compared-is S16 ftz x y = moved (2 ^ 15) (x % halfSize) (y % halfSize)
   compared-is S32 ftz x y = moved (2 ^ 31) (x % wordSize) (y % wordSize)
   compared-is S64 ftz x y = moved (2 ^ 63) x y
   compared-is F32 ftz x y = refl

@@ -4,7 +4,7 @@ use mathlib.Core.Bool.{Bool, false, not, _&&_, _||_, cond}
 use lib.Dec.{ltb, eqb}
 use lib.Ieee.{Float, binary32, binary64, ofBits}
 use Rattle.record.specs.declared.DataType.{DataType}
-use Rattle.record.specs.declared.DataType.the-variants.{B32, B64, U32, U64, S32, S64, F32, F64}
+use Rattle.record.specs.declared.DataType.the-variants.{B16, B32, B64, U16, U32, U64, S16, S32, S64, F32, F64}
 use Rattle.record.specs.declared.Cmp6.{Cmp6}
 use Rattle.record.specs.declared.Cmp6.the-variants.{Eq, Ne, Lt, Le, Gt, Ge}
 use Rattle.record.specs.declared.CmpU.{CmpU}
@@ -13,7 +13,7 @@ use Rattle.record.specs.declared.CmpF.{CmpF}
 use Rattle.record.specs.declared.CmpF.the-variants.{Equ, Neu, Ltu, Leu, Gtu, Geu, Num, Nan}
 use Rattle.record.specs.declared.CmpOp
 use Rattle.record.specs.declared.CmpOp.{CmpOp}
-use Rattle.rules.specs.Numbers.{wordSize}
+use Rattle.rules.specs.Numbers.{wordSize, halfSize}
 use Rattle.rules.specs.Execution.{flushed, floatHolds}
 use Rattle.compare.specs.declared.Compared.{Compared}
 use Rattle.compare.specs.declared.Compared.the-variants.{Whole, Single, Double}
@@ -23,10 +23,13 @@ unfoldable pub movedOf : ℕ → ℕ → ℕ
 movedOf h x = cond (ltb x h) (x + h) (x - h)
 
 unfoldable pub comparedOf : DataType → Bool → ℕ → Compared
+comparedOf B16 ftz x = Whole (x % halfSize)
 comparedOf B32 ftz x = Whole (x % wordSize)
 comparedOf B64 ftz x = Whole x
+comparedOf U16 ftz x = Whole (x % halfSize)
 comparedOf U32 ftz x = Whole (x % wordSize)
 comparedOf U64 ftz x = Whole x
+comparedOf S16 ftz x = Whole (movedOf (2 ^ 15) (x % halfSize))
 comparedOf S32 ftz x = Whole (movedOf (2 ^ 31) (x % wordSize))
 comparedOf S64 ftz x = Whole (movedOf (2 ^ 63) x)
 comparedOf F32 ftz x = Single (ofBits binary32 (flushed ftz (x % wordSize)))

@@ -7,6 +7,7 @@ use record::CmpU;
 use record::DataType;
 use record::SetType;
 use record::SlctType;
+use registers::HALF_SIZE;
 use registers::WORD_SIZE;
 ghost use mathlib.Core.Path.{_≡_};
 ghost use Prim.Native.Nat.{_^_, _≤_};
@@ -23,7 +24,9 @@ pub enum Compared {
 
 // ---- the bits of a register as a value
 
-// Half as many values as a word has, and as a double has.
+// Half as many values as a half has, as a word has, and as a double has.
+const HALF_OF_HALVES: u64 = 32768;
+
 const HALF_OF_WORDS: u64 = 2147483648;
 
 const HALF_OF_DOUBLES: u64 = 9223372036854775808;
@@ -81,16 +84,20 @@ fn double(bits: u64) -> f64
     }
 }
 
-// A type of 32 bits looks at the low 32.
+// A type of 32 bits looks at the low 32, one of 16 at the low 16.
 fn value(t: DataType, ftz: bool, x: u64) -> Compared
     ensures { λ r. ⌜ r ≡ comparedOf t ftz x ⌝ }
 {
     let low = x % WORD_SIZE;
+    let lowest = x % HALF_SIZE;
     match t {
+        DataType::B16 => Compared::Whole(lowest),
         DataType::B32 => Compared::Whole(low),
         DataType::B64 => Compared::Whole(x),
+        DataType::U16 => Compared::Whole(lowest),
         DataType::U32 => Compared::Whole(low),
         DataType::U64 => Compared::Whole(x),
+        DataType::S16 => Compared::Whole(moved(HALF_OF_HALVES, lowest)),
         DataType::S32 => Compared::Whole(moved(HALF_OF_WORDS, low)),
         DataType::S64 => Compared::Whole(moved(HALF_OF_DOUBLES, x)),
         DataType::F32 => Compared::Single(single(flush(ftz, registers::low_word(x)))),

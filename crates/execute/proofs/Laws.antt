@@ -2,7 +2,7 @@
 use Prim.Native.Nat.{ℕ, zero, suc, _+_, _<_, _≤_}
 use native.Mathlib.Omega.{arith}
 use native.Mathlib.Numerals.{add-one}
-use mathlib.Core.Path.{_≡_, refl, ap, _∙_}
+use mathlib.Core.Path.{_≡_, refl, ap, ap₂, _∙_}
 use mathlib.Core.Bool.{Bool, Bool·beq, true, false, not, cond}
 use mathlib.Core.List.{List, [], _∷_}
 use lib.ListN.{getD, drop, length}
@@ -11,15 +11,18 @@ use borrow.Author.Tests.{le-leb, lt-leb}
 use Rattle.record.specs.Refusals.{isLegal}
 use Rattle.record.specs.declared.Destination.{Destination}
 use Rattle.record.specs.declared.Destination.the-variants.{One, Pair, First, Second}
+use Rattle.record.specs.declared.Comparison.{Comparison}
+use Rattle.record.specs.declared.Choice.{Choice}
 use Rattle.record.specs.declared.Operand
 use Rattle.record.specs.declared.Operand.{Operand}
 use Rattle.record.specs.declared.Instruction.{Instruction}
 use Rattle.record.specs.declared.Instruction.the-variants.{Arithmetic, Vset, VsetLanes, ArithmeticLanes, Set, Setp, Selp, Slct}
 use Rattle.record.specs.declared.Record.{Record}
-use Rattle.record.specs.Registers.{Files, operandPlace}
-use Rattle.rules.specs.Executing.{kept, destinationWrites, writes, put, putAll, after, sizesFit, predsFit, guardHolds, Outcome, done, skipped, refused, outcome, run}
+use Rattle.record.specs.Registers.{Files, r, operandPlace}
+use Rattle.rules.specs.Execution.{comparisonOf, setOf, selpOf, slctOf}
+use Rattle.rules.specs.Executing.{wordOf, predOf, operandOf, combinedOf, testOf, kept, destinationWrites, writes, put, putAll, after, sizesFit, predsFit, guardHolds, Outcome, done, skipped, refused, outcome, run}
 use Rattle.refusals.specs.Order.{firstExecuting}
-use Rattle.execute.specs.Mirror.{operandWrite, writeOf, predsWith, written}
+use Rattle.execute.specs.Mirror.{operandIn, testIn, operandWrite, writeOf, predsWith, written}
 use Rattle.execute.specs.declared.Write
 use Rattle.execute.specs.declared.Write.{Write}
 
@@ -31,12 +34,30 @@ inverts true false = refl
 inverts false true = refl
 inverts false false = refl
 
+-- ---- reads: the files that an operand can name, and all
+
+operand-in : (f : Files) (o : Operand) → operandIn (f .words) (f .halves) (f .doubles) o ≡ operandOf f o
+operand-in f (Operand.Word w) = refl
+operand-in f (Operand.Half h) = refl
+operand-in f (Operand.Double d) = refl
+
+test-in : (f : Files) (s : Comparison) → testIn (f .words) (f .halves) (f .doubles) s ≡ testOf f s
+unfolding testIn testOf
+test-in f s = ap₂ (comparisonOf (s .cmp) (s .ftz) (s .stype)) (operand-in f (s .a)) (operand-in f (s .b))
+
 -- ---- writes
 
 operand-written : (o : Operand) (v : ℕ) (f : Files) → written (operandWrite o v) f ≡ put (operandPlace o) (kept o v) f
 unfolding operandWrite written
 operand-written (Operand.Word w) v f = refl
+operand-written (Operand.Half h) v f = refl
 operand-written (Operand.Double d) v f = refl
+
+choice-written : (s : Choice) (f : Files) (give : ℕ → ℕ → ℕ)
+    → written (operandWrite (s .d) (give (operandIn (f .words) (f .halves) (f .doubles) (s .a)) (operandIn (f .words) (f .halves) (f .doubles) (s .b)))) f
+    ≡ put (operandPlace (s .d)) (kept (s .d) (give (operandOf f (s .a)) (operandOf f (s .b)))) f
+choice-written s f give =
+    operand-written (s .d) _ f ∙ ap₂ (λ (a b : ℕ). put (operandPlace (s .d)) (kept (s .d) (give a b)) f) (operand-in f (s .a)) (operand-in f (s .b))
 
 destination-written : (d : Destination) (p q : Bool) (f : Files) → written (Write.Preds d p q) f ≡ putAll (destinationWrites d p q) f
 unfolding written predsWith
@@ -45,16 +66,18 @@ destination-written (Pair a b) p q f = refl
 destination-written (First a) p q f = refl
 destination-written (Second b) p q f = refl
 
-pub instruction-written : (i : Instruction) (f : Files) → written (writeOf i (f .words) (f .doubles) (f .preds)) f ≡ after i f
+pub instruction-written : (i : Instruction) (f : Files) → written (writeOf i (f .words) (f .halves) (f .doubles) (f .preds)) f ≡ after i f
 unfolding writeOf written after writes
 instruction-written (Arithmetic op dtype sat s) f = refl
 instruction-written (Vset cmp s) f = refl
 instruction-written (VsetLanes cmp l) f = refl
 instruction-written (ArithmeticLanes op dtype sat l) f = refl
-instruction-written (Set dtype d s) f = refl
-instruction-written (Setp d s) f = destination-written d _ _ f
-instruction-written (Selp s c) f = operand-written (s .d) _ f
-instruction-written (Slct ctype s c) f = operand-written (s .d) _ f
+instruction-written (Set dtype d s) f = ap (λ (t : Bool). put (r d) (setOf dtype (combinedOf (f .preds) (s .combination) t)) f) (test-in f s)
+instruction-written (Setp d s) f =
+    destination-written d _ _ f
+    ∙ ap (λ (t : Bool). putAll (destinationWrites d (combinedOf (f .preds) (s .combination) t) (combinedOf (f .preds) (s .combination) (not t))) f) (test-in f s)
+instruction-written (Selp s c) f = choice-written s f (selpOf (predOf (f .preds) c))
+instruction-written (Slct ctype s c) f = choice-written s f (slctOf ctype (wordOf (f .words) c))
 
 -- ---- predicates from i on: the first is seen, or none is left
 

@@ -2,7 +2,7 @@
 use Prim.Native.Nat.{ℕ, _%_}
 use mathlib.Core.Bool.{Bool, not, cond}
 use mathlib.Core.List.{List}
-use lib.ListN.{set}
+use lib.ListN.{getD, set}
 use Rattle.record.specs.declared.Arith.{Arith}
 use Rattle.record.specs.declared.Choice.{Choice}
 use Rattle.record.specs.declared.Cmp6.{Cmp6}
@@ -21,17 +21,29 @@ use Rattle.record.specs.declared.Operand
 use Rattle.record.specs.declared.Operand.{Operand}
 use Rattle.record.specs.declared.Instruction.{Instruction}
 use Rattle.record.specs.declared.Instruction.the-variants.{Arithmetic, Vset, VsetLanes, ArithmeticLanes, Set, Setp, Selp, Slct}
-use Rattle.rules.specs.Numbers.{bit, wordSize}
-use Rattle.rules.specs.Execution.{arithmeticOf, vsetOf, lanesOf, arithmeticLanesOf, setOf, selpOf, slctOf}
-use Rattle.record.specs.Registers.{Files, files}
-use Rattle.rules.specs.Executing.{wordOf, predOf, operandOf, selectedWord, formC, formD, combinedOf, testOf}
+use Rattle.rules.specs.Numbers.{bit, wordSize, halfSize}
+use Rattle.rules.specs.Execution.{arithmeticOf, vsetOf, lanesOf, arithmeticLanesOf, comparisonOf, setOf, selpOf, slctOf}
+use Rattle.record.specs.declared.File.the-variants.{Words, Halves, Doubles, Preds}
+use Rattle.record.specs.Registers.{Files, withFile, reg}
+use Rattle.rules.specs.Executing.{wordOf, predOf, selectedWord, formC, formD, combinedOf, put}
 use Rattle.execute.specs.declared.Write
 use Rattle.execute.specs.declared.Write.{Write}
+
+-- ---- what is read, of the files that an operand can name
+
+abbrev pub operandIn : List ℕ → List ℕ → List ℕ → Operand → ℕ
+operandIn words halves doubles (Operand.Word w) = getD words (w .0) 0
+operandIn words halves doubles (Operand.Half h) = getD halves (h .0) 0
+operandIn words halves doubles (Operand.Double d) = getD doubles (d .0) 0
+
+unfoldable pub testIn : List ℕ → List ℕ → List ℕ → Comparison → Bool
+testIn words halves doubles s = comparisonOf (s .cmp) (s .ftz) (s .stype) (operandIn words halves doubles (s .a)) (operandIn words halves doubles (s .b))
 
 -- ---- what each kind of instruction writes
 
 unfoldable pub operandWrite : Operand → ℕ → Write
 operandWrite (Operand.Word w) v = Write.Word w (v % wordSize)
+operandWrite (Operand.Half h) v = Write.Half h (v % halfSize)
 operandWrite (Operand.Double d) v = Write.Double d v
 
 abbrev pub arithmeticWrite : Arith → VideoType → Bool → Scalar → List ℕ → Write
@@ -50,32 +62,32 @@ abbrev pub arithmeticLanesWrite : LaneArith → VideoType → Bool → Lanes →
 arithmeticLanesWrite op dtype sat l words =
     Write.Word (l .d) (arithmeticLanesOf op dtype sat l (wordOf words (l .a)) (wordOf words (l .b)) (wordOf words (l .c)))
 
-abbrev pub setWrite : SetType → Word → Comparison → List ℕ → List ℕ → List ℕ → Write
-setWrite dtype d s words doubles preds = Write.Word d (setOf dtype (combinedOf preds (s .combination) (testOf words doubles s)))
+abbrev pub setWrite : SetType → Word → Comparison → List ℕ → List ℕ → List ℕ → List ℕ → Write
+setWrite dtype d s words halves doubles preds = Write.Word d (setOf dtype (combinedOf preds (s .combination) (testIn words halves doubles s)))
 
-abbrev pub setpWrite : Destination → Comparison → List ℕ → List ℕ → List ℕ → Write
-setpWrite d s words doubles preds =
-    Write.Preds d (combinedOf preds (s .combination) (testOf words doubles s)) (combinedOf preds (s .combination) (not (testOf words doubles s)))
+abbrev pub setpWrite : Destination → Comparison → List ℕ → List ℕ → List ℕ → List ℕ → Write
+setpWrite d s words halves doubles preds =
+    Write.Preds d (combinedOf preds (s .combination) (testIn words halves doubles s)) (combinedOf preds (s .combination) (not (testIn words halves doubles s)))
 
 -- what selp and slct choose of a and b
-abbrev pub eitherOf : Bool → Choice → List ℕ → List ℕ → ℕ
-eitherOf first s words doubles = cond first (operandOf words doubles (s .a)) (operandOf words doubles (s .b))
+abbrev pub eitherOf : Bool → Choice → List ℕ → List ℕ → List ℕ → ℕ
+eitherOf first s words halves doubles = cond first (operandIn words halves doubles (s .a)) (operandIn words halves doubles (s .b))
 
-abbrev pub selpWrite : Pred → Choice → List ℕ → List ℕ → List ℕ → Write
-selpWrite c s words doubles preds = operandWrite (s .d) (selpOf (predOf preds c) (operandOf words doubles (s .a)) (operandOf words doubles (s .b)))
+abbrev pub selpWrite : Pred → Choice → List ℕ → List ℕ → List ℕ → List ℕ → Write
+selpWrite c s words halves doubles preds = operandWrite (s .d) (selpOf (predOf preds c) (operandIn words halves doubles (s .a)) (operandIn words halves doubles (s .b)))
 
-abbrev pub slctWrite : SlctType → Word → Choice → List ℕ → List ℕ → Write
-slctWrite ctype c s words doubles = operandWrite (s .d) (slctOf ctype (wordOf words c) (operandOf words doubles (s .a)) (operandOf words doubles (s .b)))
+abbrev pub slctWrite : SlctType → Word → Choice → List ℕ → List ℕ → List ℕ → Write
+slctWrite ctype c s words halves doubles = operandWrite (s .d) (slctOf ctype (wordOf words c) (operandIn words halves doubles (s .a)) (operandIn words halves doubles (s .b)))
 
-unfoldable pub writeOf : Instruction → List ℕ → List ℕ → List ℕ → Write
-writeOf (Arithmetic op dtype sat s) words doubles preds = arithmeticWrite op dtype sat s words
-writeOf (Vset cmp s) words doubles preds = vsetWrite cmp s words
-writeOf (VsetLanes cmp l) words doubles preds = lanesWrite cmp l words
-writeOf (ArithmeticLanes op dtype sat l) words doubles preds = arithmeticLanesWrite op dtype sat l words
-writeOf (Set dtype d s) words doubles preds = setWrite dtype d s words doubles preds
-writeOf (Setp d s) words doubles preds = setpWrite d s words doubles preds
-writeOf (Selp s c) words doubles preds = selpWrite c s words doubles preds
-writeOf (Slct ctype s c) words doubles preds = slctWrite ctype c s words doubles
+unfoldable pub writeOf : Instruction → List ℕ → List ℕ → List ℕ → List ℕ → Write
+writeOf (Arithmetic op dtype sat s) words halves doubles preds = arithmeticWrite op dtype sat s words
+writeOf (Vset cmp s) words halves doubles preds = vsetWrite cmp s words
+writeOf (VsetLanes cmp l) words halves doubles preds = lanesWrite cmp l words
+writeOf (ArithmeticLanes op dtype sat l) words halves doubles preds = arithmeticLanesWrite op dtype sat l words
+writeOf (Set dtype d s) words halves doubles preds = setWrite dtype d s words halves doubles preds
+writeOf (Setp d s) words halves doubles preds = setpWrite d s words halves doubles preds
+writeOf (Selp s c) words halves doubles preds = selpWrite c s words halves doubles preds
+writeOf (Slct ctype s c) words halves doubles preds = slctWrite ctype c s words halves doubles
 
 -- ---- what the files hold after it
 
@@ -87,6 +99,7 @@ predsWith (First p) first second preds = set preds (p .0) (bit first)
 predsWith (Second q) first second preds = set preds (q .0) (bit second)
 
 unfoldable pub written : Write → Files → Files
-written (Write.Word d v) f = files (set (f .words) (d .0) v) (f .doubles) (f .preds)
-written (Write.Double d v) f = files (f .words) (set (f .doubles) (d .0) v) (f .preds)
-written (Write.Preds d first second) f = files (f .words) (f .doubles) (predsWith d first second (f .preds))
+written (Write.Word d v) f = put (reg Words (d .0)) v f
+written (Write.Half d v) f = put (reg Halves (d .0)) v f
+written (Write.Double d v) f = put (reg Doubles (d .0)) v f
+written (Write.Preds d first second) f = withFile Preds (predsWith d first second (f .preds)) f

@@ -1,4 +1,4 @@
-// Executes one record on the three lent files: reads all sources, computes, writes the places.
+// Executes one record on the four lent files: reads all sources, computes, writes the places.
 use record::Arith;
 use record::Choice;
 use record::Cmp6;
@@ -9,6 +9,7 @@ use record::Destination;
 use record::Double;
 use record::Form;
 use record::Guard;
+use record::Half;
 use record::Instruction;
 use record::LaneArith;
 use record::Lanes;
@@ -25,9 +26,9 @@ ghost use mathlib.Core.Path.{_≡_};
 ghost use mathlib.Core.Bool.{cond};
 ghost use lib.ListN.{set};
 ghost use Rattle.record.specs.Registers.{files};
-ghost use Rattle.rules.specs.Executing.{operandOf, selectedWord, formC, formD, conditionHolds, combinedOf, testOf, sizesFit, predsFit, guardHolds, outcome, run};
+ghost use Rattle.rules.specs.Executing.{selectedWord, formC, formD, conditionHolds, combinedOf, sizesFit, predsFit, guardHolds, outcome, run};
 ghost use Rattle.execute.specs.Answers.{answerOf};
-ghost use Rattle.execute.specs.Mirror.{operandWrite, arithmeticWrite, vsetWrite, lanesWrite, arithmeticLanesWrite, setWrite, setpWrite, eitherOf, selpWrite, slctWrite, writeOf, predsWith, written};
+ghost use Rattle.execute.specs.Mirror.{operandIn, testIn, operandWrite, arithmeticWrite, vsetWrite, lanesWrite, arithmeticLanesWrite, setWrite, setpWrite, eitherOf, selpWrite, slctWrite, writeOf, predsWith, written};
 
 // Done, skipped (guard false), or refused with document 01's number.
 pub enum Executed {
@@ -36,9 +37,10 @@ pub enum Executed {
     Refused(u8),
 }
 
-// What an instruction writes: a word, a double-word, or the places of a destination.
+// What an instruction writes: a word, a half-word, a double-word, or the places of a destination.
 enum Write {
     Word(Word, u32),
+    Half(Half, u16),
     Double(Double, u64),
     Preds(Destination, bool, bool),
 }
@@ -51,6 +53,15 @@ fn put_word(words: &mut [u32], w: Word, v: u32)
     let i = w.0 as usize;
     if i < words.len() {
         words[i] = v;
+    }
+}
+
+fn put_half(halves: &mut [u16], h: Half, v: u16)
+    ensures { λ _. ⌜ now (halves .exit) ≡ set (now (halves .entry)) (h .0) v ⌝ }
+{
+    let i = h.0 as usize;
+    if i < halves.len() {
+        halves[i] = v;
     }
 }
 
@@ -80,11 +91,12 @@ fn widened(x: u32) -> u64
     x as u64
 }
 
-fn operand(o: Operand, words: &[u32], doubles: &[u64]) -> u64
-    ensures { λ r. ⌜ r ≡ operandOf (now (words .entry)) (now (doubles .entry)) o ⌝ }
+fn operand(o: Operand, words: &[u32], halves: &[u16], doubles: &[u64]) -> u64
+    ensures { λ r. ⌜ r ≡ operandIn (now (words .entry)) (now (halves .entry)) (now (doubles .entry)) o ⌝ }
 {
     match o {
         Operand::Word(w) => widened(registers::word_at(words, w)),
+        Operand::Half(h) => widened(registers::half_at(halves, h) as u32),
         Operand::Double(d) => registers::double_at(doubles, d),
     }
 }
@@ -94,6 +106,7 @@ fn operand_write(o: Operand, v: u64) -> Write
 {
     match o {
         Operand::Word(w) => Write::Word(w, registers::low_word(v)),
+        Operand::Half(h) => Write::Half(h, registers::low_half(v)),
         Operand::Double(d) => Write::Double(d, v),
     }
 }
@@ -196,15 +209,15 @@ fn combined(c: Combination, t: bool, preds: &[u8]) -> bool
     }
 }
 
-fn test(s: Comparison, words: &[u32], doubles: &[u64]) -> bool
-    ensures { λ r. ⌜ r ≡ testOf (now (words .entry)) (now (doubles .entry)) s ⌝ }
+fn test(s: Comparison, words: &[u32], halves: &[u16], doubles: &[u64]) -> bool
+    ensures { λ r. ⌜ r ≡ testIn (now (words .entry)) (now (halves .entry)) (now (doubles .entry)) s ⌝ }
 {
     let op = s.cmp;
     let t = s.stype;
     let a = s.a;
     let b = s.b;
-    let x = operand(a, words, doubles);
-    let y = operand(b, words, doubles);
+    let x = operand(a, words, halves, doubles);
+    let y = operand(b, words, halves, doubles);
     compare::comparison(op, s.ftz, t, x, y)
 }
 
@@ -213,24 +226,32 @@ fn set_write(
     d: Word,
     s: Comparison,
     words: &[u32],
+    halves: &[u16],
     doubles: &[u64],
     preds: &[u8],
 ) -> Write
-    ensures { λ r. ⌜ r ≡ setWrite dtype d s (now (words .entry)) (now (doubles .entry)) (now (preds .entry)) ⌝ }
+    ensures { λ r. ⌜ r ≡ setWrite dtype d s (now (words .entry)) (now (halves .entry)) (now (doubles .entry)) (now (preds .entry)) ⌝ }
 {
     let combination = s.combination;
-    let t = test(s, words, doubles);
+    let t = test(s, words, halves, doubles);
     Write::Word(
         d,
         compare::set_value(dtype, combined(combination, t, preds)),
     )
 }
 
-fn setp_write(d: Destination, s: Comparison, words: &[u32], doubles: &[u64], preds: &[u8]) -> Write
-    ensures { λ r. ⌜ r ≡ setpWrite d s (now (words .entry)) (now (doubles .entry)) (now (preds .entry)) ⌝ }
+fn setp_write(
+    d: Destination,
+    s: Comparison,
+    words: &[u32],
+    halves: &[u16],
+    doubles: &[u64],
+    preds: &[u8],
+) -> Write
+    ensures { λ r. ⌜ r ≡ setpWrite d s (now (words .entry)) (now (halves .entry)) (now (doubles .entry)) (now (preds .entry)) ⌝ }
 {
     let combination = s.combination;
-    let t = test(s, words, doubles);
+    let t = test(s, words, halves, doubles);
     let first = combined(combination, t, preds);
     let second = combined(combination, !t, preds);
     Write::Preds(d, first, second)
@@ -244,35 +265,49 @@ fn chosen(first: bool, a: u64, b: u64) -> u64
     if first { a } else { b }
 }
 
-fn choice_write(first: bool, s: Choice, words: &[u32], doubles: &[u64]) -> Write
-    ensures { λ r. ⌜ r ≡ operandWrite (s .d) (eitherOf first s (now (words .entry)) (now (doubles .entry))) ⌝ }
+fn choice_write(first: bool, s: Choice, words: &[u32], halves: &[u16], doubles: &[u64]) -> Write
+    ensures { λ r. ⌜ r ≡ operandWrite (s .d) (eitherOf first s (now (words .entry)) (now (halves .entry)) (now (doubles .entry))) ⌝ }
 {
     let d = s.d;
     let a = s.a;
     let b = s.b;
-    let x = operand(a, words, doubles);
-    let y = operand(b, words, doubles);
+    let x = operand(a, words, halves, doubles);
+    let y = operand(b, words, halves, doubles);
     operand_write(d, chosen(first, x, y))
 }
 
-fn selp_write(c: Pred, s: Choice, words: &[u32], doubles: &[u64], preds: &[u8]) -> Write
-    ensures { λ r. ⌜ r ≡ selpWrite c s (now (words .entry)) (now (doubles .entry)) (now (preds .entry)) ⌝ }
+fn selp_write(
+    c: Pred,
+    s: Choice,
+    words: &[u32],
+    halves: &[u16],
+    doubles: &[u64],
+    preds: &[u8],
+) -> Write
+    ensures { λ r. ⌜ r ≡ selpWrite c s (now (words .entry)) (now (halves .entry)) (now (doubles .entry)) (now (preds .entry)) ⌝ }
 {
     let first = registers::pred_at(preds, c) == 1;
-    choice_write(first, s, words, doubles)
+    choice_write(first, s, words, halves, doubles)
 }
 
-fn slct_write(ctype: SlctType, c: Word, s: Choice, words: &[u32], doubles: &[u64]) -> Write
-    ensures { λ r. ⌜ r ≡ slctWrite ctype c s (now (words .entry)) (now (doubles .entry)) ⌝ }
+fn slct_write(
+    ctype: SlctType,
+    c: Word,
+    s: Choice,
+    words: &[u32],
+    halves: &[u16],
+    doubles: &[u64],
+) -> Write
+    ensures { λ r. ⌜ r ≡ slctWrite ctype c s (now (words .entry)) (now (halves .entry)) (now (doubles .entry)) ⌝ }
 {
     let first = compare::not_below_zero(ctype, registers::word_at(words, c));
-    choice_write(first, s, words, doubles)
+    choice_write(first, s, words, halves, doubles)
 }
 
 // ---- one instruction: all sources are read before any destination is written
 
-fn write_of(r: Record, words: &[u32], doubles: &[u64], preds: &[u8]) -> Write
-    ensures { λ w. ⌜ w ≡ writeOf (r .instruction) (now (words .entry)) (now (doubles .entry)) (now (preds .entry)) ⌝ }
+fn write_of(r: Record, words: &[u32], halves: &[u16], doubles: &[u64], preds: &[u8]) -> Write
+    ensures { λ w. ⌜ w ≡ writeOf (r .instruction) (now (words .entry)) (now (halves .entry)) (now (doubles .entry)) (now (preds .entry)) ⌝ }
 {
     let i = r.instruction;
     match i {
@@ -294,10 +329,24 @@ fn write_of(r: Record, words: &[u32], doubles: &[u64], preds: &[u8]) -> Write
             dtype,
             d,
             comparison,
-        } => set_write(dtype, d, comparison, words, doubles, preds),
-        Instruction::Setp { d, comparison } => setp_write(d, comparison, words, doubles, preds),
-        Instruction::Selp { choice, c } => selp_write(c, choice, words, doubles, preds),
-        Instruction::Slct { ctype, choice, c } => slct_write(ctype, c, choice, words, doubles),
+        } => set_write(dtype, d, comparison, words, halves, doubles, preds),
+        Instruction::Setp { d, comparison } => setp_write(
+            d,
+            comparison,
+            words,
+            halves,
+            doubles,
+            preds,
+        ),
+        Instruction::Selp { choice, c } => selp_write(c, choice, words, halves, doubles, preds),
+        Instruction::Slct { ctype, choice, c } => slct_write(
+            ctype,
+            c,
+            choice,
+            words,
+            halves,
+            doubles,
+        ),
     }
 }
 
@@ -317,11 +366,12 @@ fn put_destination(d: Destination, first: bool, second: bool, preds: &mut [u8])
     }
 }
 
-fn put(w: Write, words: &mut [u32], doubles: &mut [u64], preds: &mut [u8])
-    ensures { λ _. ⌜ files (now (words .exit)) (now (doubles .exit)) (now (preds .exit)) ≡ written w (files (now (words .entry)) (now (doubles .entry)) (now (preds .entry))) ⌝ }
+fn put(w: Write, words: &mut [u32], halves: &mut [u16], doubles: &mut [u64], preds: &mut [u8])
+    ensures { λ _. ⌜ files (now (words .exit)) (now (halves .exit)) (now (doubles .exit)) (now (preds .exit)) ≡ written w (files (now (words .entry)) (now (halves .entry)) (now (doubles .entry)) (now (preds .entry))) ⌝ }
 {
     match w {
         Write::Word(d, v) => put_word(words, d, v),
+        Write::Half(d, v) => put_half(halves, d, v),
         Write::Double(d, v) => put_double(doubles, d, v),
         Write::Preds(d, first, second) => put_destination(d, first, second, preds),
     }
@@ -329,10 +379,11 @@ fn put(w: Write, words: &mut [u32], doubles: &mut [u64], preds: &mut [u8])
 
 // ---- the entry point
 
-fn sizes_fit(words: &[u32], doubles: &[u64], preds: &[u8]) -> bool
-    ensures { λ r. ⌜ r ≡ sizesFit (files (now (words .entry)) (now (doubles .entry)) (now (preds .entry))) ⌝ }
+fn sizes_fit(words: &[u32], halves: &[u16], doubles: &[u64], preds: &[u8]) -> bool
+    ensures { λ r. ⌜ r ≡ sizesFit (files (now (words .entry)) (now (halves .entry)) (now (doubles .entry)) (now (preds .entry))) ⌝ }
 {
     (words.len() == record::WORDS as usize)
+        & (halves.len() == record::HALVES as usize)
         & (doubles.len() == record::DOUBLES as usize)
         & (preds.len() == record::PREDS as usize)
 }
@@ -360,12 +411,18 @@ fn guard_holds(g: Guard, preds: &[u8]) -> bool
 }
 
 // Executes the record on the lent files. A refusal or a false guard changes nothing.
-pub fn execute(r: Record, words: &mut [u32], doubles: &mut [u64], preds: &mut [u8]) -> Executed
-    ensures { λ x. ⌜ outcome (answerOf x) (files (now (words .exit)) (now (doubles .exit)) (now (preds .exit))) ≡ run r (files (now (words .entry)) (now (doubles .entry)) (now (preds .entry))) ⌝ }
+pub fn execute(
+    r: Record,
+    words: &mut [u32],
+    halves: &mut [u16],
+    doubles: &mut [u64],
+    preds: &mut [u8],
+) -> Executed
+    ensures { λ x. ⌜ outcome (answerOf x) (files (now (words .exit)) (now (halves .exit)) (now (doubles .exit)) (now (preds .exit))) ≡ run r (files (now (words .entry)) (now (halves .entry)) (now (doubles .entry)) (now (preds .entry))) ⌝ }
 {
     let g = r.guard;
     let illegal = !legal::legal(r);
-    let wrong_sizes = !sizes_fit(words, doubles, preds);
+    let wrong_sizes = !sizes_fit(words, halves, doubles, preds);
     let wrong_preds = !preds_fit(preds);
     let n = refusals::executing(illegal, wrong_sizes, wrong_preds);
     if n != 0 {
@@ -374,7 +431,7 @@ pub fn execute(r: Record, words: &mut [u32], doubles: &mut [u64], preds: &mut [u
     if !guard_holds(g, preds) {
         return Executed::Skipped;
     }
-    let w = write_of(r, words, doubles, preds);
-    put(w, words, doubles, preds);
+    let w = write_of(r, words, halves, doubles, preds);
+    put(w, words, halves, doubles, preds);
     Executed::Done
 }

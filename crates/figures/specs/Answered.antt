@@ -1,4 +1,4 @@
--- Lines and the answers that document 01 and T-05 give them: lines that are read, each refusal 1 to 7, from 2 on with its place, and lines to which more than one
+-- Lines and the answers that document 01, T-05 and T-06 give them: lines that are read, each refusal 1 to 7, from 2 on with its place, and lines to which more than one
 -- applies. One list with one claim.
 use Prim.Native.Nat.{ℕ}
 use mathlib.Core.Path.{_≡_, refl, subst}
@@ -33,7 +33,7 @@ use Rattle.fillplace.specs.Tries.{isFilled, beginsFilled, operandPlaceOf}
 use Rattle.places.specs.Mirror.{modifierPlaceOf, operandIndexOf, legalPlaceOf, guardPlaceOf, partsPlaceOf, placeOf}
 use Rattle.read.specs.Mirror.{candidateOf, verdictOf, refusedBy, readOf}
 use Rattle.read.specs.Answering.{answers}
-use Rattle.figures.specs.Lines.{exampleVset4, exampleSetp, exampleSelp, highestWord}
+use Rattle.figures.specs.Lines.{exampleVset4, exampleSetp, exampleSelp, highestWord, halfSelp, halfSet}
 
 pub record Answered : Type 0 where
   pub line : List ℕ
@@ -109,6 +109,35 @@ answered =
     ∷ gets (bytes "selp.u32 %r1, %r64, %r65, %p16;") (refused-at 6 14)
     ∷ gets (bytes "selp.u32 %r1, %r2, %r3, %p16;") (refused-at 6 24)
     ∷ gets (bytes "@%p1 setp.lt.u32 %p1|%p1, %r1, %r2;") (refused-at 7 21)
+    -- T-06. `%rs` and a number is a register everywhere; `%rs32` is 6, `%rs032` and `%rs1000` are 2
+    ∷ gets (bytes "@%p1 selp.b16 %rs5, %rs31, %rs2, %p1;") (read halfSelp)
+    ∷ gets (bytes " set.gt.u32.s16  %r1,%rs5 ,%rs0 ; ") (read halfSet)
+    ∷ gets (bytes "selp.b16 %rs32, %rs1, %rs2, %p1;") (refused-at 6 9)
+    ∷ gets (bytes "selp.b16 %rs1, %rs31, %rs999, %p1;") (refused-at 6 22)
+    ∷ gets (bytes "selp.b16 %rs032, %rs1, %rs2, %p1;") (refused-at 2 13)
+    ∷ gets (bytes "selp.b16 %rs1000, %rs1, %rs2, %p1;") (refused-at 2 15)
+    ∷ gets (bytes "selp.b16 %rs") (refused-at 2 12)
+    ∷ gets (bytes "selp.b16 %rsd1, %rs1, %rs2, %p1;") (refused-at 2 12)
+    ∷ gets (bytes "selp.b16 %s1, %rs1, %rs2, %p1;") (refused-at 2 10)
+    -- b16 u16 s16 for stype, selp's type, slct's dtype; not set's dtype, not slct's second type, no f16; comparisons and `ftz` as for the wider ones
+    ∷ gets (bytes "set.lo.s32.s16 %r1, %rs1, %rs2;") (refused-at 4 11)
+    ∷ gets (bytes "set.lt.u16.u32 %r1, %r2, %r3;") (refused-at 4 7)
+    ∷ gets (bytes "setp.lt.b16 %p1, %rs1, %rs2;") (refused-at 4 8)
+    ∷ gets (bytes "setp.eq.ftz.u16 %p1, %rs1, %rs2;") (refused-at 4 12)
+    ∷ gets (bytes "selp.f16 %rs1, %rs2, %rs3, %p1;") (refused-at 4 5)
+    ∷ gets (bytes "slct.s32.s16 %r1, %r2, %r3, %rs4;") (refused-at 4 9)
+    ∷ gets (bytes "vadd.u16.u32.u32 %r1, %r2, %r3;") (refused-at 4 5)
+    -- a 16-bit type takes `%rs`, no other does; a guard and video operands are 5
+    ∷ gets (bytes "selp.u16 %r1, %rs2, %rs3, %p1;") (refused-at 5 9)
+    ∷ gets (bytes "selp.u16 %rs1, %rs2, %rd3, %p1;") (refused-at 5 21)
+    ∷ gets (bytes "set.eq.u32.u16 %rs1, %rs2, %rs3;") (refused-at 5 15)
+    ∷ gets (bytes "set.eq.u32.u16 %r1, %r2, %r3;") (refused-at 5 20)
+    ∷ gets (bytes "setp.lt.s32 %p1, %r1, %rs2;") (refused-at 5 22)
+    ∷ gets (bytes "vadd.u32.u32.u32 %rs1, %r2, %r3;") (refused-at 5 17)
+    ∷ gets (bytes "@%rs1 selp.u16 %rs1, %rs2, %rs3, %p1;") (refused-at 5 0)
+    ∷ gets (bytes "slct.u16.s32 %rs1, %rs2, %rs3, %rs4;") (refused-at 5 31)
+    ∷ gets (bytes "slct.u16.s32 %rs1, %rs2, %rs3;") (refused-at 5 29)
+    ∷ gets (bytes "selp.u16 %rs1.h0, %rs2, %rs3, %p1;") (refused-at 5 9)
     ∷ []
 
 -- the reader's stages give each line its answer

@@ -1,7 +1,7 @@
 -- Document 01, "Bench figures": the starred ones; then fourteen for T-01, which came with its issue, and sixteen for T-02, of which document 02
--- has two; then document 01's seven of execution without a star, and ten of ours. One list with one claim. Each is a line with its record and
--- its files, through `run`, and the whole outcome. `%r0`, `%r1` and `%r2` hold a, b and c; d is `%r3`. Predicate 0 holds c of setp; its
--- places are 1 and 2.
+-- has two; then document 01's seven of execution without a star, and ten of ours; then twenty for T-06. One list with one claim. Each is a line
+-- with its record and its files, through `run`, and the whole outcome. `%r0`, `%r1` and `%r2` hold a, b and c; d is `%r3`; `%rs` likewise.
+-- Predicate 0 holds c of setp; its places are 1 and 2.
 use Prim.Native.Nat.{ℕ}
 use Prim.Native.String.{String}
 use mathlib.Core.Path.{_≡_, refl}
@@ -23,12 +23,14 @@ use Rattle.record.specs.declared.SetType.{SetType}
 use Rattle.record.specs.declared.SlctType
 use Rattle.record.specs.declared.SlctType.{SlctType}
 use Rattle.record.specs.declared.Cmp6.{Cmp6}
-use Rattle.record.specs.declared.Cmp6.the-variants.{Eq, Lt, Ge}
+use Rattle.record.specs.declared.Cmp6.the-variants.{Eq, Lt, Gt, Ge}
+use Rattle.record.specs.declared.CmpU.the-variants.{Hi}
 use Rattle.record.specs.declared.CmpF.the-variants.{Ltu}
 use Rattle.record.specs.declared.CmpOp.{CmpOp}
-use Rattle.record.specs.declared.CmpOp.the-variants.{Six, Float}
+use Rattle.record.specs.declared.CmpOp.the-variants.{Six, Unsigned, Float}
 use Rattle.record.specs.declared.BoolOp.the-variants.{And}
 use Rattle.record.specs.declared.Guard.the-variants.{Always, When}
+use Rattle.record.specs.declared.Comparison.{Comparison}
 use Rattle.record.specs.declared.Combination.{Combination}
 use Rattle.record.specs.declared.Combination.the-variants.{Alone, With}
 use Rattle.record.specs.declared.Selector.the-variants.{B1}
@@ -77,9 +79,12 @@ r n = record { 0 = n }
 abbrev p : ℕ → Pred
 p n = record { 0 = n }
 
--- 64 words, 32 double-words, 16 predicates, all 0 but the first few
+abbrev rs : ℕ → Operand
+rs n = Operand.Half (record { 0 = n })
+
+-- 64 words, 32 half-words, 32 double-words, 16 predicates, all 0 but the first few
 abbrev lent : List ℕ → List ℕ → Files
-lent words preds = files words (replicate 32 0) preds
+lent words preds = files words (replicate 32 0) (replicate 32 0) preds
 
 abbrev four : ℕ → ℕ → ℕ → ℕ → List ℕ
 four a b c d = a ∷ b ∷ c ∷ d ∷ replicate 60 0
@@ -109,6 +114,22 @@ scalarRecord op dtype sat atype btype form =
 -- vset of u32
 abbrev vsetWordRecord : Cmp6 → Form → Record
 vsetWordRecord cmp form = always (Vset cmp (record { atype = U32; btype = U32; form = form; a = Whole (r 0); b = Whole (r 1) }))
+
+-- T-06: `%rs0` and `%rs1`, without BoolOp
+abbrev halves : CmpOp → DataType → Comparison
+halves cmp t = record { cmp = cmp; combination = Alone; ftz = false; stype = t; a = rs 0; b = rs 1 }
+
+abbrev setHalves : SetType → CmpOp → DataType → Record
+setHalves dtype cmp t = always (Set dtype (r 3) (halves cmp t))
+
+abbrev setpHalves : CmpOp → DataType → Record
+setpHalves cmp t = always (Setp (Pair (p 1) (p 2)) (halves cmp t))
+
+abbrev selpHalves : DataType → Operand → Record
+selpHalves t d = always (Selp (record { dtype = t; d = d; a = rs 0; b = rs 1 }) (p 0))
+
+abbrev slctHalves : SlctType → DataType → Record
+slctHalves ctype t = always (Slct ctype (record { dtype = t; d = rs 3; a = rs 0; b = rs 1 }) (r 2))
 
 -- stype f32, without BoolOp
 abbrev setRecord : CmpOp → Bool → SetType → Record
@@ -171,7 +192,25 @@ answers line spelled f a = record { line = line; spelled = spelled; before = f; 
 
 -- double-words 0, 1 and 3
 abbrev doubled : ℕ → ℕ → ℕ → List ℕ → Files
-doubled a b d preds = files (replicate 64 0) (a ∷ b ∷ 0 ∷ d ∷ replicate 28 0) preds
+doubled a b d preds = files (replicate 64 0) (replicate 32 0) (a ∷ b ∷ 0 ∷ d ∷ replicate 28 0) preds
+
+-- T-06: half-words 0, 1 and 3, words 2 and 3
+abbrev halved : ℕ → ℕ → ℕ → ℕ → ℕ → List ℕ → Files
+halved a b d c e preds = files (four 0 0 c e) (a ∷ b ∷ 0 ∷ d ∷ replicate 28 0) (replicate 32 0) preds
+
+-- set into `%r3`: what it leaves there; setp into `%p1|%p2`
+abbrev sets : String → Record → ℕ → ℕ → ℕ → Figure
+sets line spelled a b v =
+    record { line = line; spelled = spelled; before = halved a b 0 0 other (three 0 0 0); answer = done; left = halved a b 0 0 v (three 0 0 0) }
+
+abbrev sorts : String → Record → ℕ → ℕ → ℕ → ℕ → Figure
+sorts line spelled a b first second =
+    record { line = line; spelled = spelled; before = halved a b 0 0 0 (three 0 0 0); answer = done; left = halved a b 0 0 0 (three 0 first second) }
+
+-- selp by `%p0`, slct by `%r2`, into `%rs3`
+abbrev copies : String → Record → ℕ → ℕ → ℕ → ℕ → ℕ → Figure
+copies line spelled a b c q d =
+    record { line = line; spelled = spelled; before = halved a b 0x1234 c 0 (three q 0 0); answer = done; left = halved a b d c 0 (three q 0 0) }
 
 -- slct by c. a and b are subnormal themselves, so that a flushed copy would show
 abbrev picksA : String → Record → ℕ → Figure
@@ -269,10 +308,37 @@ figures =
       left = doubled 0x123456789ABCDEF0 1 0x123456789ABCDEF0 (three 0 1 0);
     }
     ∷ answers "@%p0 selp.b64 %rd3, %rd0, %rd1, %p1;" (selpRecord false) (doubled 0x123456789ABCDEF0 1 other (three 0 1 0)) skipped
-    -- some predicate byte over 1; file lengths not 64, 32, 16
+    -- some predicate byte over 1; file lengths not 64, 32, 32, 16
     ∷ answers "vadd.s32.s32.s32 %r3, %r0, %r1;" (scalarRecord Vadd S32 false S32 S32 (Plain (r 3))) (lent (four 1 1 0 other) (three 0 0 2)) (refused 11)
     ∷ answers "vadd.s32.s32.s32 %r3, %r0, %r1;" (scalarRecord Vadd S32 false S32 S32 (Plain (r 3)))
-    (files (1 ∷ four 1 1 0 other) (replicate 32 0) (three 0 0 2)) (refused 10)
+    (files (1 ∷ four 1 1 0 other) (replicate 32 0) (replicate 32 0) (three 0 0 2)) (refused 10)
+    -- T-06. The new file's length counts also for a record that uses none of it; 10 reads 64, 32, 32, 16, and comes before 11
+    ∷ answers "vadd.s32.s32.s32 %r3, %r0, %r1;" (scalarRecord Vadd S32 false S32 S32 (Plain (r 3)))
+    (files (four 1 1 0 other) (replicate 31 0) (replicate 32 0) (three 0 0 2)) (refused 10)
+    ∷ answers "vadd.s32.s32.s32 %r3, %r0, %r1;" (scalarRecord Vadd S32 false S32 S32 (Plain (r 3)))
+    (files (four 1 1 0 other) (replicate 33 0) (replicate 32 0) (three 0 0 0)) (refused 10)
+    ∷ answers "vadd.s32.s32.s32 %r3, %r0, %r1;" (scalarRecord Vadd S32 false S32 S32 (Plain (r 3)))
+    (files (four 1 1 0 other) (replicate 32 0) (replicate 31 0) (three 0 0 0)) (refused 10)
+    -- exact numbers of 16 bits, signed or not: 7FFF and 8000, FFFF and 0
+    ∷ sorts "setp.lt.u16 %p1|%p2, %rs0, %rs1;" (setpHalves (Six Lt) DataType.U16) 0x7FFF 0x8000 1 0
+    ∷ sorts "setp.lt.s16 %p1|%p2, %rs0, %rs1;" (setpHalves (Six Lt) DataType.S16) 0x7FFF 0x8000 0 1
+    ∷ sorts "setp.lt.s16 %p1|%p2, %rs0, %rs1;" (setpHalves (Six Lt) DataType.S16) 0x8000 0x7FFF 1 0
+    ∷ sets "set.gt.u32.s16 %r3, %rs0, %rs1;" (setHalves SetType.U32 (Six Gt) DataType.S16) 0xFFFF 0 0
+    ∷ sets "set.gt.u32.u16 %r3, %rs0, %rs1;" (setHalves SetType.U32 (Six Gt) DataType.U16) 0xFFFF 0 0xFFFFFFFF
+    ∷ sets "set.hi.s32.u16 %r3, %rs0, %rs1;" (setHalves SetType.S32 (Unsigned Hi) DataType.U16) 0x8000 0x00FF 0xFFFFFFFF
+    ∷ sets "set.eq.f32.b16 %r3, %rs0, %rs1;" (setHalves SetType.F32 (Six Eq) DataType.B16) 0xFFFF 0xFFFF 0x3F800000
+    ∷ sets "set.eq.f32.b16 %r3, %rs0, %rs1;" (setHalves SetType.F32 (Six Eq) DataType.B16) 0x80FF 0x00FF 0
+    -- selp and slct copy 16 bits; c of slct is a word
+    ∷ copies "selp.b16 %rs3, %rs0, %rs1, %p0;" (selpHalves DataType.B16 (rs 3)) 0xFFFF 0x8001 0 1 0xFFFF
+    ∷ copies "selp.u16 %rs3, %rs0, %rs1, %p0;" (selpHalves DataType.U16 (rs 3)) 0xFFFF 0x8001 0 0 0x8001
+    ∷ copies "slct.s16.s32 %rs3, %rs0, %rs1, %r2;" (slctHalves SlctType.S32 DataType.S16) 0xFFFF 0x8001 0x7FFFFFFF 0 0xFFFF
+    ∷ copies "slct.s16.s32 %rs3, %rs0, %rs1, %r2;" (slctHalves SlctType.S32 DataType.S16) 0xFFFF 0x8001 0x80000000 0 0x8001
+    ∷ copies "slct.u16.f32 %rs3, %rs0, %rs1, %r2;" (slctHalves (SlctType.F32 false) DataType.U16) 0xFFFF 0x8001 0x80000001 0 0x8001
+    ∷ copies "slct.ftz.u16.f32 %rs3, %rs0, %rs1, %r2;" (slctHalves (SlctType.F32 true) DataType.U16) 0xFFFF 0x8001 0x80000001 0 0xFFFF
+    -- 8: a register of another file, and one past the new file
+    ∷ answers "selp.u16 %r3, %rs0, %rs1, %p0;" (selpHalves DataType.U16 (Operand.Word (r 3))) (halved 1 2 3 4 5 (three 0 0 0)) (refused 8)
+    ∷ answers "selp.u16 %rs32, %rs0, %rs1, %p0;" (selpHalves DataType.U16 (rs 32)) (halved 1 2 3 4 5 (three 0 0 0)) (refused 8)
+    ∷ answers "selp.u32 %rs3, %rs0, %rs1, %p0;" (selpHalves DataType.U32 (rs 3)) (halved 1 2 3 4 5 (three 0 0 0)) (refused 8)
     ∷ []
 
 -- what a figure says: its line, its answer, and the files that it leaves

@@ -83,9 +83,9 @@ abbrev pub given : Pair → List ℕ × List (List ℕ) × ℕ × ℕ
 given g =
     (standard (g .simdRecord), map standard (g .lineRecords), at (run (g .simdRecord) (g .before) .files) (r d), at (runAll (g .lineRecords) (g .before)) (r (g .e)))
 
--- 64 words, of which the first three hold a, b and c; the others, double-words and predicates are 0
+-- 64 words, of which the first three hold a, b and c; the others, half-words, double-words and predicates are 0
 abbrev words : ℕ → ℕ → ℕ → Files
-words a b c = files (a ∷ b ∷ c ∷ replicate 61 0) (replicate 32 0) (replicate 16 0)
+words a b c = files (a ∷ b ∷ c ∷ replicate 61 0) (replicate 32 0) (replicate 32 0) (replicate 16 0)
 
 abbrev digits : ℕ → ℕ → ℕ → ℕ → Digits
 digits d3 d2 d1 d0 = record { lane0 = d0; lane1 = d1; lane2 = d2; lane3 = d3 }

@@ -16,7 +16,7 @@ use Rattle.record.specs.declared.SetType
 use Rattle.record.specs.declared.SetType.{SetType}
 use Rattle.record.specs.declared.SlctType
 use Rattle.record.specs.declared.SlctType.{SlctType}
-use Rattle.record.specs.declared.Cmp6.the-variants.{Lt, Ge}
+use Rattle.record.specs.declared.Cmp6.the-variants.{Lt, Gt, Ge}
 use Rattle.record.specs.declared.CmpF.the-variants.{Ltu}
 use Rattle.record.specs.declared.CmpU.the-variants.{Lo}
 use Rattle.record.specs.declared.CmpOp
@@ -54,6 +54,9 @@ r n = record { 0 = n }
 
 abbrev rd : ℕ → Operand
 rd n = Operand.Double (record { 0 = n })
+
+abbrev rs : ℕ → Operand
+rs n = Operand.Half (record { 0 = n })
 
 abbrev p : ℕ → Pred
 p n = record { 0 = n }
@@ -99,6 +102,12 @@ exampleSelp =
 
 abbrev pub highestWord : Record
 highestWord = always (Arithmetic Vadd U32 false (record { atype = U32; btype = U32; form = Plain (r 63); a = Whole (r 1); b = Whole (r 2) }))
+
+abbrev pub halfSelp : Record
+halfSelp = record { guard = When (plain 1); instruction = Selp (record { dtype = DataType.B16; d = rs 5; a = rs 31; b = rs 2 }) (p 1) }
+
+abbrev pub halfSet : Record
+halfSet = always (Set SetType.U32 (r 1) (record { cmp = CmpOp.Six Gt; combination = Alone; ftz = false; stype = DataType.S16; a = rs 5; b = rs 0 }))
 
 -- ---- the lines
 
@@ -204,6 +213,18 @@ lines =
     ∷ is (always (Slct SlctType.S32 (record { dtype = DataType.B64; d = rd 1; a = rd 2; b = rd 3 }) (r 4))) (bytes "slct.b64.s32 %rd1, %rd2, %rd3, %r4;")
     ∷ is (always (Slct (SlctType.F32 true) (record { dtype = DataType.F32; d = w 1; a = w 2; b = w 3 }) (r 4)))
     (bytes "slct.ftz.f32.f32 %r1, %r2, %r3, %r4;")
+    -- T-06
+    ∷ is
+    (always
+    (Setp (First (p 0))
+    (record { cmp = CmpOp.Unsigned Lo; combination = With Xor (inverted 2); ftz = false; stype = DataType.U16; a = rs 0; b = rs 31 })))
+    (bytes "setp.lo.xor.u16 %p0|_, %rs0, %rs31, !%p2;")
+    ∷ is (always (Set SetType.F32 (r 63) (record { cmp = CmpOp.Six Lt; combination = Alone; ftz = false; stype = DataType.S16; a = rs 1; b = rs 2 })))
+    (bytes "set.lt.f32.s16 %r63, %rs1, %rs2;")
+    ∷ is (always (Slct (SlctType.F32 true) (record { dtype = DataType.B16; d = rs 1; a = rs 2; b = rs 3 }) (r 4)))
+    (bytes "slct.ftz.b16.f32 %rs1, %rs2, %rs3, %r4;")
+    ∷ is halfSelp (bytes "@%p1 selp.b16 %rs5, %rs31, %rs2, %p1;")
+    ∷ is halfSet (bytes "set.gt.u32.s16 %r1, %rs5, %rs0;")
     ∷ []
 
 -- each record's standard line is the text that stands beside it

@@ -8,9 +8,8 @@ use lib.ListN.{length, take}
 use lib.Seq.{take-all}
 use Rattle.record.specs.Modifiers.{comparisonFits, instructionModifiersFit}
 use Rattle.record.specs.Operands.{lanesFit, fullMask, defaultA, defaultB, maskFits, digitsFit, byWidth, choiceFits, instructionOperandsFit}
-use Rattle.record.specs.declared.Double.{Double}
 use Rattle.record.specs.declared.DataType.{DataType}
-use Rattle.record.specs.declared.DataType.the-variants.{B32, B64, U32, U64, S32, S64, F32, F64}
+use Rattle.record.specs.declared.DataType.the-variants.{B16, B32, B64, U16, U32, U64, S16, S32, S64, F32, F64}
 use Rattle.record.specs.declared.Arith.{Arith}
 use Rattle.record.specs.declared.LaneArith.{LaneArith}
 use Rattle.record.specs.declared.VideoType.{VideoType}
@@ -19,7 +18,6 @@ use Rattle.record.specs.declared.SlctType.{SlctType}
 use Rattle.record.specs.declared.Destination.{Destination}
 use Rattle.record.specs.declared.Cmp6.{Cmp6}
 use Rattle.record.specs.declared.Operand.{Operand}
-use Rattle.record.specs.declared.Operand.the-variants as operand
 use Rattle.record.specs.declared.Selected.{Selected}
 use Rattle.record.specs.declared.Selected.the-variants.{Whole}
 use Rattle.record.specs.declared.Form.{Form}
@@ -34,7 +32,7 @@ use Rattle.record.specs.declared.Comparison.{Comparison}
 use Rattle.record.specs.declared.Choice.{Choice}
 use Rattle.record.specs.declared.Instruction.{Instruction}
 use Rattle.record.specs.declared.Instruction.the-variants.{Arithmetic, Vset, VsetLanes, ArithmeticLanes, Set, Setp, Selp, Slct}
-use Rattle.record.specs.Registers.{Place, word, double, pred, r, p, operandPlace}
+use Rattle.record.specs.Registers.{Place, word, pred, r, p, operandPlace}
 use Rattle.rules.specs.Shape.{Name, OperandTree, bare}
 use Rattle.rules.specs.Names.{arithName, videoTypeName, sixName, cmpName, setTypeName, typeName, braced, headNames, formOp2, combinationNames}
 use Rattle.signs.specs.Text.{bytes}
@@ -48,80 +46,66 @@ use Rattle.rules.specs.Reading.Spelled.{none, more}
 use Rattle.begins.specs.Endings.{EndedBy, here, later}
 use Rattle.rules.specs.BytePlaces.{Begins}
 use Rattle.tree.specs.Blank.{noWord, noPred, noCondition, blankLanes, blankChoice}
+use Rattle.fillplace.specs.Tries.{typed, rowOperand}
 
 -- ==== the endings, in the order in which they are tried
 
 abbrev pub w : OperandTree
 w = bare (word 0)
 
-abbrev pub q : OperandTree
-q = bare (double 0)
-
 abbrev pub v : OperandTree
 v = bare (pred 0)
 
-abbrev pub endings : List (List OperandTree)
-endings =
+-- a register that the row of an instruction has as a and b
+abbrev pub x-of : Instruction → OperandTree
+x-of i = bare (operandPlace (rowOperand i))
+
+abbrev pub endings : OperandTree → List (List OperandTree)
+endings x =
     []
-    ∷ (w ∷ [])
-    ∷ (w ∷ w ∷ [])
-    ∷ (w ∷ w ∷ w ∷ [])
-    ∷ (q ∷ [])
-    ∷ (q ∷ q ∷ [])
+    ∷ (x ∷ [])
+    ∷ (x ∷ x ∷ [])
     ∷ (v ∷ [])
-    ∷ (w ∷ v ∷ [])
-    ∷ (w ∷ w ∷ v ∷ [])
-    ∷ (q ∷ v ∷ [])
-    ∷ (q ∷ q ∷ v ∷ [])
-    ∷ (q ∷ w ∷ [])
-    ∷ (q ∷ q ∷ w ∷ [])
+    ∷ (x ∷ v ∷ [])
+    ∷ (x ∷ x ∷ v ∷ [])
+    ∷ (w ∷ [])
+    ∷ (x ∷ w ∷ [])
+    ∷ (x ∷ x ∷ w ∷ [])
     ∷ []
 
-abbrev pub Ends : List Name → List OperandTree → Type 0
-Ends head s = EndedBy (LegalOperands head) s endings
+abbrev pub Ends : OperandTree → List Name → List OperandTree → Type 0
+Ends x head s = EndedBy (LegalOperands head) s (endings x)
 
-module _ {head : List Name} {s : List OperandTree} where
-  e0 : LegalOperands head (s ++ []) → Ends head s
-  e0 x = here x
+module _ {x : OperandTree} {head : List Name} {s : List OperandTree} where
+  e0 : LegalOperands head (s ++ []) → Ends x head s
+  e0 l = here l
 
-  ew : LegalOperands head (s ++ w ∷ []) → Ends head s
-  ew x = later (here x)
+  ex : LegalOperands head (s ++ x ∷ []) → Ends x head s
+  ex l = later (here l)
 
-  eww : LegalOperands head (s ++ w ∷ w ∷ []) → Ends head s
-  eww x = later (later (here x))
+  exx : LegalOperands head (s ++ x ∷ x ∷ []) → Ends x head s
+  exx l = later (later (here l))
 
-  ewww : LegalOperands head (s ++ w ∷ w ∷ w ∷ []) → Ends head s
-  ewww x = later (later (later (here x)))
+  ev : LegalOperands head (s ++ v ∷ []) → Ends x head s
+  ev l = later (later (later (here l)))
 
-  eq : LegalOperands head (s ++ q ∷ []) → Ends head s
-  eq x = later (later (later (later (here x))))
+  exv : LegalOperands head (s ++ x ∷ v ∷ []) → Ends x head s
+  exv l = later (later (later (later (here l))))
 
-  eqq : LegalOperands head (s ++ q ∷ q ∷ []) → Ends head s
-  eqq x = later (later (later (later (later (here x)))))
+  exxv : LegalOperands head (s ++ x ∷ x ∷ v ∷ []) → Ends x head s
+  exxv l = later (later (later (later (later (here l)))))
 
-  ev : LegalOperands head (s ++ v ∷ []) → Ends head s
-  ev x = later (later (later (later (later (later (here x))))))
+  ew : LegalOperands head (s ++ w ∷ []) → Ends x head s
+  ew l = later (later (later (later (later (later (here l))))))
 
-  ewv : LegalOperands head (s ++ w ∷ v ∷ []) → Ends head s
-  ewv x = later (later (later (later (later (later (later (here x)))))))
+  exw : LegalOperands head (s ++ x ∷ w ∷ []) → Ends x head s
+  exw l = later (later (later (later (later (later (later (here l)))))))
 
-  ewwv : LegalOperands head (s ++ w ∷ w ∷ v ∷ []) → Ends head s
-  ewwv x = later (later (later (later (later (later (later (later (here x))))))))
-
-  eqv : LegalOperands head (s ++ q ∷ v ∷ []) → Ends head s
-  eqv x = later (later (later (later (later (later (later (later (later (here x)))))))))
-
-  eqqv : LegalOperands head (s ++ q ∷ q ∷ v ∷ []) → Ends head s
-  eqqv x = later (later (later (later (later (later (later (later (later (later (here x))))))))))
-
-  eqw : LegalOperands head (s ++ q ∷ w ∷ []) → Ends head s
-  eqw x = later (later (later (later (later (later (later (later (later (later (later (here x)))))))))))
-
-  eqqw : LegalOperands head (s ++ q ∷ q ∷ w ∷ []) → Ends head s
-  eqqw x = later (later (later (later (later (later (later (later (later (later (later (later (here x))))))))))))
+  exxw : LegalOperands head (s ++ x ∷ x ∷ w ∷ []) → Ends x head s
+  exxw l = later (later (later (later (later (later (later (later (here l))))))))
 
 -- a whole list
-all : (head : List Name) (os : List OperandTree) (k : ℕ) → LegalOperands head os → length os ≤ k → Ends head (take k os)
+all : {x : OperandTree} (head : List Name) (os : List OperandTree) (k : ℕ) → LegalOperands head os → length os ≤ k → Ends x head (take k os)
 all head os k l h = e0 (subst (LegalOperands head) (sym (append-nil (take k os) ∙ take-all k os h)) l)
 
 both : (s t : Bool) → s ≡ true → t ≡ true → s && t ≡ true
@@ -140,48 +124,45 @@ right false t e = let z : _≡_ {A = ℕ} 0 1 = cc in absurd (omega arith)
 module _ (head : List Name) (a b : Selected) where
   -- what is legal with any d, a, b and c of the form
   scalar-ends : (f : Form) → ((g : Form) (x y : Selected) → formOp2 g ≡ formOp2 f → LegalOperands head (formTree g ∷ selectedTree x ∷ selectedTree y ∷ formLast g)) → (k : ℕ)
-      → Ends head (take (suc k) (formTree f ∷ selectedTree a ∷ selectedTree b ∷ formLast f))
-  scalar-ends (Plain d) l zero = eww (l (Plain d) (Whole noWord) (Whole noWord) refl)
-  scalar-ends (Plain d) l (suc zero) = ew (l (Plain d) a (Whole noWord) refl)
+      → Ends w head (take (suc k) (formTree f ∷ selectedTree a ∷ selectedTree b ∷ formLast f))
+  scalar-ends (Plain d) l zero = exx (l (Plain d) (Whole noWord) (Whole noWord) refl)
+  scalar-ends (Plain d) l (suc zero) = ex (l (Plain d) a (Whole noWord) refl)
   scalar-ends (Plain d) l (suc (suc k)) = all head _ (suc (suc (suc k))) (l (Plain d) a b refl) (omega arith)
-  scalar-ends (Merge d s c) l zero = ewww (l (Merge d s noWord) (Whole noWord) (Whole noWord) refl)
-  scalar-ends (Merge d s c) l (suc zero) = eww (l (Merge d s noWord) a (Whole noWord) refl)
-  scalar-ends (Merge d s c) l (suc (suc zero)) = ew (l (Merge d s noWord) a b refl)
+  scalar-ends (Merge d s c) l zero = exxw (l (Merge d s noWord) (Whole noWord) (Whole noWord) refl)
+  scalar-ends (Merge d s c) l (suc zero) = exx (l (Merge d s noWord) a (Whole noWord) refl)
+  scalar-ends (Merge d s c) l (suc (suc zero)) = ex (l (Merge d s noWord) a b refl)
   scalar-ends (Merge d s c) l (suc (suc (suc k))) = all head _ (suc (suc (suc (suc k)))) (l (Merge d s c) a b refl) (omega arith)
-  scalar-ends (Combine o d c) l zero = ewww (l (Combine o d noWord) (Whole noWord) (Whole noWord) refl)
-  scalar-ends (Combine o d c) l (suc zero) = eww (l (Combine o d noWord) a (Whole noWord) refl)
-  scalar-ends (Combine o d c) l (suc (suc zero)) = ew (l (Combine o d noWord) a b refl)
+  scalar-ends (Combine o d c) l zero = exxw (l (Combine o d noWord) (Whole noWord) (Whole noWord) refl)
+  scalar-ends (Combine o d c) l (suc zero) = exx (l (Combine o d noWord) a (Whole noWord) refl)
+  scalar-ends (Combine o d c) l (suc (suc zero)) = ex (l (Combine o d noWord) a b refl)
   scalar-ends (Combine o d c) l (suc (suc (suc k))) = all head _ (suc (suc (suc (suc k)))) (l (Combine o d c) a b refl) (omega arith)
 
 -- ==== by width
 
-abbrev aWord : Operand
-aWord = operand.Word noWord
-
-abbrev aDouble : Operand
-aDouble = operand.Double (record { 0 = 0 })
-
-sized : {G : Type 0} (t : DataType) → (byWidth t aWord ≡ true → G) → (byWidth t aDouble ≡ true → G) → G
-sized B32 f g = f refl
-sized B64 f g = g refl
-sized U32 f g = f refl
-sized U64 f g = g refl
-sized S32 f g = f refl
-sized S64 f g = g refl
-sized F32 f g = f refl
-sized F64 f g = g refl
+typed-fits : (t : DataType) → byWidth t (typed t) ≡ true
+typed-fits B16 = refl
+typed-fits B32 = refl
+typed-fits B64 = refl
+typed-fits U16 = refl
+typed-fits U32 = refl
+typed-fits U64 = refl
+typed-fits S16 = refl
+typed-fits S32 = refl
+typed-fits S64 = refl
+typed-fits F32 = refl
+typed-fits F64 = refl
 
 -- ==== set, setp: after d
 
 module _ (head : List Name) (d : OperandTree) (t : DataType) (a b : Operand) (f : byWidth t a ≡ true) (g : byWidth t b ≡ true) where
   source-ends : (c : Combination)
       → ((x y : Operand) (e : Combination) → combinationNames e ≡ combinationNames c → byWidth t x && byWidth t y ≡ true → LegalOperands head (d ∷ bare (operandPlace x) ∷ bare (operandPlace y) ∷ combinationLast e))
-      → (k : ℕ) → Ends head (take (suc k) (d ∷ bare (operandPlace a) ∷ bare (operandPlace b) ∷ combinationLast c))
-  source-ends Alone l zero = sized t (λ h. eww (l aWord aWord Alone refl (both _ _ h h))) (λ h. eqq (l aDouble aDouble Alone refl (both _ _ h h)))
-  source-ends Alone l (suc zero) = sized t (λ h. ew (l a aWord Alone refl (both _ _ f h))) (λ h. eq (l a aDouble Alone refl (both _ _ f h)))
+      → (k : ℕ) → Ends (bare (operandPlace (typed t))) head (take (suc k) (d ∷ bare (operandPlace a) ∷ bare (operandPlace b) ∷ combinationLast c))
+  source-ends Alone l zero = exx (l (typed t) (typed t) Alone refl (both _ _ (typed-fits t) (typed-fits t)))
+  source-ends Alone l (suc zero) = ex (l a (typed t) Alone refl (both _ _ f (typed-fits t)))
   source-ends Alone l (suc (suc k)) = all head _ (suc (suc (suc k))) (l a b Alone refl (both _ _ f g)) (omega arith)
-  source-ends (With o c) l zero = sized t (λ h. ewwv (l aWord aWord (With o noCondition) refl (both _ _ h h))) (λ h. eqqv (l aDouble aDouble (With o noCondition) refl (both _ _ h h)))
-  source-ends (With o c) l (suc zero) = sized t (λ h. ewv (l a aWord (With o noCondition) refl (both _ _ f h))) (λ h. eqv (l a aDouble (With o noCondition) refl (both _ _ f h)))
+  source-ends (With o c) l zero = exxv (l (typed t) (typed t) (With o noCondition) refl (both _ _ (typed-fits t) (typed-fits t)))
+  source-ends (With o c) l (suc zero) = exv (l a (typed t) (With o noCondition) refl (both _ _ f (typed-fits t)))
   source-ends (With o c) l (suc (suc zero)) = ev (l a b (With o noCondition) refl (both _ _ f g))
   source-ends (With o c) l (suc (suc (suc k))) = all head _ (suc (suc (suc (suc k)))) (l a b (With o c) refl (both _ _ f g)) (omega arith)
 
@@ -197,15 +178,15 @@ module _ (head : List Name) (t : DataType) (d a b : Operand) (e : byWidth t d �
   abbrev Legal : Place → Type 0
   Legal c = (x y z : Operand) → byWidth t x && byWidth t y && byWidth t z ≡ true → LegalOperands head (choice c x y z)
 
-  selp-ends : (c : Place) → Legal c → Legal (pred 0) → (k : ℕ) → Ends head (take (suc k) (choice c d a b))
-  selp-ends c m l zero = sized t (λ h. ewwv (l d aWord aWord (all-three _ _ _ e h h))) (λ h. eqqv (l d aDouble aDouble (all-three _ _ _ e h h)))
-  selp-ends c m l (suc zero) = sized t (λ h. ewv (l d a aWord (all-three _ _ _ e f h))) (λ h. eqv (l d a aDouble (all-three _ _ _ e f h)))
+  selp-ends : (c : Place) → Legal c → Legal (pred 0) → (k : ℕ) → Ends (bare (operandPlace (typed t))) head (take (suc k) (choice c d a b))
+  selp-ends c m l zero = exxv (l d (typed t) (typed t) (all-three _ _ _ e (typed-fits t) (typed-fits t)))
+  selp-ends c m l (suc zero) = exv (l d a (typed t) (all-three _ _ _ e f (typed-fits t)))
   selp-ends c m l (suc (suc zero)) = ev (l d a b (all-three _ _ _ e f g))
   selp-ends c m l (suc (suc (suc k))) = all head _ (suc (suc (suc (suc k)))) (m d a b (all-three _ _ _ e f g)) (omega arith)
 
-  slct-ends : (c : Place) → Legal c → Legal (word 0) → (k : ℕ) → Ends head (take (suc k) (choice c d a b))
-  slct-ends c m l zero = sized t (λ h. ewww (l d aWord aWord (all-three _ _ _ e h h))) (λ h. eqqw (l d aDouble aDouble (all-three _ _ _ e h h)))
-  slct-ends c m l (suc zero) = sized t (λ h. eww (l d a aWord (all-three _ _ _ e f h))) (λ h. eqw (l d a aDouble (all-three _ _ _ e f h)))
+  slct-ends : (c : Place) → Legal c → Legal (word 0) → (k : ℕ) → Ends (bare (operandPlace (typed t))) head (take (suc k) (choice c d a b))
+  slct-ends c m l zero = exxw (l d (typed t) (typed t) (all-three _ _ _ e (typed-fits t) (typed-fits t)))
+  slct-ends c m l (suc zero) = exw (l d a (typed t) (all-three _ _ _ e f (typed-fits t)))
   slct-ends c m l (suc (suc zero)) = ew (l d a b (all-three _ _ _ e f g))
   slct-ends c m l (suc (suc (suc k))) = all head _ (suc (suc (suc (suc k)))) (m d a b (all-three _ _ _ e f g)) (omega arith)
 
@@ -231,20 +212,20 @@ WithSources head l =
 
 module _ (head : List Name) (l : Lanes) (legal : WithSources head l) (m : maskFits (l .width) (l .mask) ≡ true) where
   lanes-ends : {os : List OperandTree} → digitsFit (l .width) (l .asel) ≡ true → digitsFit (l .width) (l .bsel) ≡ true
-      → Spelled os (lanesTrees l) (writtenLanes l) → (k : ℕ) → Ends head (take (suc k) os)
+      → Spelled os (lanesTrees l) (writtenLanes l) → (k : ℕ) → Ends w head (take (suc k) os)
   lanes-ends f g (more h1 (more h2 (more h3 (more h4 none)))) zero =
       let x = default-a (l .width) in
       let y = default-b (l .width) in
-      ewww
+      exxw
       (legal noWord (defaultA (l .width)) noWord (defaultB (l .width)) noWord (all-three _ _ _ m (x .1) (y .1)) _
       (more h1 (more (as-standard (x .0)) (more (as-standard (y .0)) (more (as-standard refl) none)))))
   lanes-ends f g (more h1 (more h2 (more h3 (more h4 none)))) (suc zero) =
       let y = default-b (l .width) in
-      eww
+      exx
       (legal (l .a) (l .asel) noWord (defaultB (l .width)) noWord (all-three _ _ _ m f (y .1)) _
       (more h1 (more h2 (more (as-standard (y .0)) (more (as-standard refl) none)))))
   lanes-ends f g (more h1 (more h2 (more h3 (more h4 none)))) (suc (suc zero)) =
-      ew (legal (l .a) (l .asel) (l .b) (l .bsel) noWord (all-three _ _ _ m f g) _ (more h1 (more h2 (more h3 (more (as-standard refl) none)))))
+      ex (legal (l .a) (l .asel) (l .b) (l .bsel) noWord (all-three _ _ _ m f g) _ (more h1 (more h2 (more h3 (more (as-standard refl) none)))))
   lanes-ends f g (more h1 (more h2 (more h3 (more h4 none)))) (suc (suc (suc k))) =
       all head _ (suc (suc (suc (suc k)))) (legal (l .a) (l .asel) (l .b) (l .bsel) (l .c) (all-three _ _ _ m f g) _ (more h1 (more h2 (more h3 (more h4 none))))) (omega arith)
 
@@ -345,23 +326,23 @@ module _ {head : List Name} where
     fit = f;
   }
 
-  lanes-row : (l : Lanes) → WithSources head l → lanesFit l ≡ true → {os : List OperandTree} → Spelled os (lanesTrees l) (writtenLanes l) → (k : ℕ) → Ends head (take (suc k) os)
+  lanes-row : (l : Lanes) → WithSources head l → lanesFit l ≡ true → {os : List OperandTree} → Spelled os (lanesTrees l) (writtenLanes l) → (k : ℕ) → Ends w head (take (suc k) os)
   lanes-row l legal f x k =
-      let w = l .width in
-      let u : maskFits w (l .mask) && digitsFit w (l .asel) ≡ true = left _ (digitsFit w (l .bsel)) f in
-      lanes-ends head l legal (left _ (digitsFit w (l .asel)) u) (right (maskFits w (l .mask)) _ u) (right (maskFits w (l .mask) && digitsFit w (l .asel)) _ f) x k
+      let n = l .width in
+      let u : maskFits n (l .mask) && digitsFit n (l .asel) ≡ true = left _ (digitsFit n (l .bsel)) f in
+      lanes-ends head l legal (left _ (digitsFit n (l .asel)) u) (right (maskFits n (l .mask)) _ u) (right (maskFits n (l .mask) && digitsFit n (l .asel)) _ f) x k
 
   -- the standard operands of a row that has no others
-  standard : {os : List OperandTree} (i : Instruction) → OperandsSpell os i → operandTrees i ≡ writtenTrees i → (k : ℕ) → Ends head (take (suc k) (operandTrees i)) → Ends head (take (suc k) os)
-  standard i x e k z = subst (λ (l : List OperandTree). Ends head (take (suc k) l)) (sym (spelled-same (x .operands) e)) z
+  standard : {os : List OperandTree} (i : Instruction) → OperandsSpell os i → operandTrees i ≡ writtenTrees i → (k : ℕ) → Ends (x-of i) head (take (suc k) (operandTrees i)) → Ends (x-of i) head (take (suc k) os)
+  standard i x e k z = subst (λ (l : List OperandTree). Ends (x-of i) head (take (suc k) l)) (sym (spelled-same (x .operands) e)) z
 
-  slct-row : (j : SlctType) (s : Choice) (c : Word) → head ≡ headNames (Slct j (blankChoice (s .dtype)) noWord) → choiceFits s ≡ true → (k : ℕ) → Ends head (take (suc k) (choice (r c) (s .d) (s .a) (s .b)))
+  slct-row : (j : SlctType) (s : Choice) (c : Word) → head ≡ headNames (Slct j (blankChoice (s .dtype)) noWord) → choiceFits s ≡ true → (k : ℕ) → Ends (bare (operandPlace (typed (s .dtype)))) head (take (suc k) (choice (r c) (s .d) (s .a) (s .b)))
   slct-row j s c n f k =
       let t = s .dtype in
       let u : byWidth t (s .d) && byWidth t (s .a) ≡ true = left _ (byWidth t (s .b)) f in
       slct-ends head t (s .d) (s .a) (s .b) (left _ (byWidth t (s .a)) u) (right (byWidth t (s .d)) _ u) (right (byWidth t (s .d) && byWidth t (s .a)) _ f) (r c) (slct-legal j t n c) (slct-legal j t n noWord) k
 
-  by-row : (i : Instruction) (os : List OperandTree) → head ≡ headNames i → OperandsSpell os i → instructionModifiersFit i ≡ true → instructionOperandsFit i ≡ true → (k : ℕ) → Ends head (take (suc k) os)
+  by-row : (i : Instruction) (os : List OperandTree) → head ≡ headNames i → OperandsSpell os i → instructionModifiersFit i ≡ true → instructionOperandsFit i ≡ true → (k : ℕ) → Ends (x-of i) head (take (suc k) os)
   by-row (Arithmetic op d sat s) os n x m f k = standard (Arithmetic op d sat s) x refl k (scalar-ends head (s .a) (s .b) (s .form) (scalar-legal-a op d sat s n) k)
   by-row (Vset c s) os n x m f k = standard (Vset c s) x refl k (scalar-ends head (s .a) (s .b) (s .form) (scalar-legal-v c s n) k)
   by-row (VsetLanes c l) os n x m f k = lanes-row l (vset-lanes-legal c l n) f (x .operands) k
@@ -380,7 +361,7 @@ module _ {head : List Name} where
   by-row (Slct slct.S32 s c) os n x m f k = standard (Slct slct.S32 s c) x refl k (slct-row slct.S32 s c n f k)
   by-row (Slct (slct.F32 ftz) s c) os n x m f k = standard (Slct (slct.F32 ftz) s c) x refl k (slct-row (slct.F32 ftz) s c n f k)
 
-pub operands-end : (head : List Name) (os : List OperandTree) → LegalOperands head os → (k : ℕ) → Ends head (take (suc k) os)
+pub operands-end : (head : List Name) (os : List OperandTree) → (l : LegalOperands head os) → (k : ℕ) → Ends (x-of (l .instruction)) head (take (suc k) os)
 operands-end head os l k = by-row (l .instruction) os (l .row .names) (l .spells) (l .row .fit) (l .fit) k
 
 -- ==== under every row there is a legal list
@@ -393,10 +374,10 @@ scalar-list head f l = listed _ (l f (Whole noWord) (Whole noWord) refl)
 
 source-list : (head : List Name) (d : OperandTree) (t : DataType) (c : Combination)
     → ((x y : Operand) → byWidth t x && byWidth t y ≡ true → LegalOperands head (d ∷ bare (operandPlace x) ∷ bare (operandPlace y) ∷ combinationLast c)) → Begins (LegalOperands head) []
-source-list head d t c l = sized t (λ h. listed _ (l aWord aWord (both _ _ h h))) (λ h. listed _ (l aDouble aDouble (both _ _ h h)))
+source-list head d t c l = listed _ (l (typed t) (typed t) (both _ _ (typed-fits t) (typed-fits t)))
 
 choice-list : (head : List Name) (t : DataType) (c : Place) → ((x y z : Operand) → byWidth t x && byWidth t y && byWidth t z ≡ true → LegalOperands head (choice c x y z)) → Begins (LegalOperands head) []
-choice-list head t c l = sized t (λ h. listed _ (l aWord aWord aWord (all-three _ _ _ h h h))) (λ h. listed _ (l aDouble aDouble aDouble (all-three _ _ _ h h h)))
+choice-list head t c l = listed _ (l (typed t) (typed t) (typed t) (all-three _ _ _ (typed-fits t) (typed-fits t) (typed-fits t)))
 
 full-fits : (w : LaneWidth) → maskFits w (fullMask w) && digitsFit w (defaultA w) && digitsFit w (defaultB w) ≡ true
 full-fits Half = refl

@@ -15,7 +15,10 @@ use Rattle.record.specs.declared.Combination.{Combination}
 use Rattle.record.specs.declared.Combination.the-variants.{Alone, With}
 use Rattle.record.specs.declared.Instruction.{Instruction}
 use Rattle.record.specs.declared.Instruction.the-variants.{Arithmetic, Vset, VsetLanes, ArithmeticLanes, Set, Setp, Selp, Slct}
-use Rattle.rules.specs.Shape.{Name, OperandTree}
+use Rattle.record.specs.declared.DataType.{DataType}
+use Rattle.record.specs.declared.DataType.the-variants.{B16, B32, B64, U16, U32, U64, S16, S32, S64, F32, F64}
+use Rattle.record.specs.Registers.{operandPlace}
+use Rattle.rules.specs.Shape.{Name, OperandTree, bare}
 use Rattle.rules.specs.Names.{headNames}
 use Rattle.rules.specs.Spelling.{formLast, combinationLast, operandTrees}
 use Rattle.rules.specs.Grammar.{GoodOperand, GoodOperands}
@@ -36,8 +39,8 @@ use Rattle.fills.specs.FillComplete.{fill-complete}
 use Rattle.fills.specs.FillSound.{fill-sound}
 use Rattle.fills.specs.declared.Filled.{Filled}
 use Rattle.fills.specs.declared.Filled.the-variants.{Full, Wrong}
-use Rattle.fillplace.specs.Tries.{isFull, isFilled, none, slotOf, entry, completed, tried, beginsFilled, guessOf, operandPlaceOf}
-use Rattle.fillplace.specs.EndingLaws.{w, q, v, endings, Ends, operands-end, some-list}
+use Rattle.fillplace.specs.Tries.{typed, isFull, isFilled, none, slotOf, entry, completed, tried, beginsFilled, guessOf, operandPlaceOf}
+use Rattle.fillplace.specs.EndingLaws.{w, v, x-of, endings, Ends, operands-end, some-list}
 
 not-so : {A : Type 0} → false ≡ true → A
 not-so e = let z : _≡_ {A = ℕ} 0 1 = cc in absurd (omega arith)
@@ -96,23 +99,20 @@ or-false : (t : Bool) → t ≡ t || false
 or-false true = refl
 or-false false = refl
 
-begins-is : (i : Instruction) (os : List OperandTree) (k : ℕ) → k ≤ length os → k ≤ 4 → beginsFilled i (seenOperands os) k ≡ some (fillTest i) (take k os) endings
+begins-is : (i : Instruction) (os : List OperandTree) (k : ℕ) → k ≤ length os → k ≤ 4 → beginsFilled i (seenOperands os) k ≡ some (fillTest i) (take k os) (endings (x-of i))
 unfolding beginsFilled
 begins-is i os k h l =
+    let x = x-of i in
     rw (le-ltb 4 k l)
     (ap₂ _||_ (tried-is i os k h ([]) (omega arith))
-    (ap₂ _||_ (tried-is i os k h (w ∷ []) (omega arith))
-    (ap₂ _||_ (tried-is i os k h (w ∷ w ∷ []) (omega arith))
-    (ap₂ _||_ (tried-is i os k h (w ∷ w ∷ w ∷ []) (omega arith))
-    (ap₂ _||_ (tried-is i os k h (q ∷ []) (omega arith))
-    (ap₂ _||_ (tried-is i os k h (q ∷ q ∷ []) (omega arith))
+    (ap₂ _||_ (tried-is i os k h (x ∷ []) (omega arith))
+    (ap₂ _||_ (tried-is i os k h (x ∷ x ∷ []) (omega arith))
     (ap₂ _||_ (tried-is i os k h (v ∷ []) (omega arith))
-    (ap₂ _||_ (tried-is i os k h (w ∷ v ∷ []) (omega arith))
-    (ap₂ _||_ (tried-is i os k h (w ∷ w ∷ v ∷ []) (omega arith))
-    (ap₂ _||_ (tried-is i os k h (q ∷ v ∷ []) (omega arith))
-    (ap₂ _||_ (tried-is i os k h (q ∷ q ∷ v ∷ []) (omega arith))
-    (ap₂ _||_ (tried-is i os k h (q ∷ w ∷ []) (omega arith))
-    ((tried-is i os k h (q ∷ q ∷ w ∷ []) (omega arith)) ∙ or-false _)))))))))))))
+    (ap₂ _||_ (tried-is i os k h (x ∷ v ∷ []) (omega arith))
+    (ap₂ _||_ (tried-is i os k h (x ∷ x ∷ v ∷ []) (omega arith))
+    (ap₂ _||_ (tried-is i os k h (w ∷ []) (omega arith))
+    (ap₂ _||_ (tried-is i os k h (x ∷ w ∷ []) (omega arith))
+    (tried-is i os k h (x ∷ x ∷ w ∷ []) (omega arith) ∙ or-false _)))))))))
 
 good-append : {s t : List OperandTree} → GoodOperands s → GoodOperands t → GoodOperands (s ++ t)
 good-append no-operand h = h
@@ -123,25 +123,43 @@ good-take g zero = no-operand
 good-take no-operand (suc k) = no-operand
 good-take (other-operand g gs) (suc k) = other-operand g (good-take gs k)
 
-endings-good : Each GoodOperands endings
-endings-good =
-    let a : GoodOperand w = omega arith in
-    let b : GoodOperand q = omega arith in
+row-good : (t : DataType) → GoodOperand (bare (operandPlace (typed t)))
+row-good B16 = omega arith
+row-good B32 = omega arith
+row-good B64 = omega arith
+row-good U16 = omega arith
+row-good U32 = omega arith
+row-good U64 = omega arith
+row-good S16 = omega arith
+row-good S32 = omega arith
+row-good S64 = omega arith
+row-good F32 = omega arith
+row-good F64 = omega arith
+
+x-good : (i : Instruction) → GoodOperand (x-of i)
+x-good (Arithmetic op d sat s) = omega arith
+x-good (Vset c s) = omega arith
+x-good (VsetLanes c l) = omega arith
+x-good (ArithmeticLanes op d sat l) = omega arith
+x-good (Set t d s) = row-good (s .stype)
+x-good (Setp d s) = row-good (s .stype)
+x-good (Selp s c) = row-good (s .dtype)
+x-good (Slct t s c) = row-good (s .dtype)
+
+endings-good : (x : OperandTree) → GoodOperand x → Each GoodOperands (endings x)
+endings-good x a =
+    let b : GoodOperand w = omega arith in
     let c : GoodOperand v = omega arith in
     (and-more no-operand
     (and-more (other-operand a no-operand)
     (and-more (other-operand a (other-operand a no-operand))
-    (and-more (other-operand a (other-operand a (other-operand a no-operand)))
-    (and-more (other-operand b no-operand)
-    (and-more (other-operand b (other-operand b no-operand))
     (and-more (other-operand c no-operand)
     (and-more (other-operand a (other-operand c no-operand))
     (and-more (other-operand a (other-operand a (other-operand c no-operand)))
-    (and-more (other-operand b (other-operand c no-operand))
-    (and-more (other-operand b (other-operand b (other-operand c no-operand)))
-    (and-more (other-operand b (other-operand a no-operand))
-    (and-more (other-operand b (other-operand b (other-operand a no-operand)))
-    no-more)))))))))))))
+    (and-more (other-operand b no-operand)
+    (and-more (other-operand a (other-operand b no-operand))
+    (and-more (other-operand a (other-operand a (other-operand b no-operand)))
+    no-more)))))))))
 
 spelled-length : {os ss ws : List OperandTree} → Spelled os ss ws → length os ≡ length ss
 spelled-length no-spelled = refl
@@ -177,6 +195,17 @@ at-most i o k e = go (ltb 4 k) refl _ e
     go true p x s = not-so s
     go false p x s = ltb-false 4 k p
 
+-- rows of the same head have the same
+x-blank : (i : Instruction) → x-of (blank i) ≡ x-of i
+x-blank (Arithmetic op d sat s) = refl
+x-blank (Vset c s) = refl
+x-blank (VsetLanes c l) = refl
+x-blank (ArithmeticLanes op d sat l) = refl
+x-blank (Set t d s) = refl
+x-blank (Setp d s) = refl
+x-blank (Selp s c) = refl
+x-blank (Slct t s c) = refl
+
 -- ==== a row that is filled has a legal list of operands
 
 module _ (head : List Name) (i : Instruction) (names : head ≡ headNames i) (empty : blank i ≡ i) (fit : instructionModifiersFit i ≡ true) where
@@ -202,16 +231,17 @@ module _ (head : List Name) (i : Instruction) (names : head ≡ headNames i) (em
       ap (λ (x : Instruction). isFull (filledOf x (seenOperands os))) e ∙ ap isFull (fill-complete (l .instruction) os (l .spells)) ∙ l .fit
 
   -- ---- no list has over four operands
-  begun : (os : List OperandTree) (k : ℕ) → suc k ≤ length os → Begins (LegalOperands head) (take (suc k) os) → (suc k ≤ 4) × Ends head (take (suc k) os)
+  begun : (os : List OperandTree) (k : ℕ) → suc k ≤ length os → Begins (LegalOperands head) (take (suc k) os) → (suc k ≤ 4) × Ends (x-of i) head (take (suc k) os)
   begun os k h b =
       let s : List OperandTree = take (suc k) os in
       let n : length s ≡ suc k = length-take-le (suc k) os h in
       let m : length s + length (b .rest) ≤ 4 = subst (λ (x : ℕ). x ≤ 4) (length-append s (b .rest)) (at-most-four (b .whole .instruction) (b .whole .spells .operands)) in
-      (omega arith, subst (λ (x : List OperandTree). Ends head x) (take-at s (b .rest) (suc k) n) (operands-end head (s ++ b .rest) (b .whole) k))
+      let e : x-of i ≡ x-of (b .whole .instruction) = ap x-of (sym empty ∙ same-row i (b .whole .instruction) (sym names ∙ b .whole .row .names)) ∙ x-blank (b .whole .instruction) in
+      (omega arith, subst (λ (x : OperandTree). Ends x head s) (sym e) (subst (λ (l : List OperandTree). Ends (x-of (b .whole .instruction)) head l) (take-at s (b .rest) (suc k) n) (operands-end head (s ++ b .rest) (b .whole) k)))
 
   operands-tell : (os : List OperandTree) → GoodOperands os → Tells (LegalOperands head) os (beginsFilled i (seenOperands os))
   operands-tell os g = record {
-    right = λ k h e. some-right (fillTest i) (take (suc k) os) (λ x y. filled-right (take (suc k) os ++ x) (good-append (good-take g (suc k)) y)) endings-good
+    right = λ k h e. some-right (fillTest i) (take (suc k) os) (λ x y. filled-right (take (suc k) os ++ x) (good-append (good-take g (suc k)) y)) (endings-good (x-of i) (x-good i))
         (sym (begins-is i os (suc k) h (at-most i (seenOperands os) (suc k) e)) ∙ e);
     all = λ k h b. let x = begun os k h b in begins-is i os (suc k) h (x .0) ∙ some-all (fillTest i) (take (suc k) os) filled-all (x .1);
     some = subst (λ (ns : List Name). Begins (LegalOperands ns) []) (sym names) (some-list i fit);

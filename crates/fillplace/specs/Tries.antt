@@ -5,9 +5,17 @@ use mathlib.Core.Path.{_≡_, refl}
 use mathlib.Core.Bool.{Bool, true, false, _||_, cond}
 use lib.Dec.{eqb, ltb}
 use Rattle.record.specs.Operands.{instructionOperandsFit}
+use Rattle.record.specs.Registers.{operandPlace}
+use Rattle.record.specs.declared.DataType.{DataType}
+use Rattle.record.specs.declared.DataType.the-variants.{B16, B32, B64, U16, U32, U64, S16, S32, S64, F32, F64}
+use Rattle.record.specs.declared.Operand.{Operand}
+use Rattle.record.specs.declared.Operand.the-variants as operand
 use Rattle.record.specs.declared.Instruction.{Instruction}
+use Rattle.record.specs.declared.Instruction.the-variants.{Arithmetic, Vset, VsetLanes, ArithmeticLanes, Set, Setp, Selp, Slct}
+use Rattle.rules.specs.Shape.{bare}
+use Rattle.tree.specs.Seen.{seenOperand}
 use Rattle.begins.specs.Searches.{turnsAt, searched}
-use Rattle.tree.specs.declared.Place.the-variants.{Word, Double, Pred}
+use Rattle.tree.specs.declared.Place.the-variants.{Word, Pred}
 use Rattle.tree.specs.declared.Spot.the-variants.{Nothing}
 use Rattle.tree.specs.declared.Tree.{Tree}
 use Rattle.tree.specs.declared.Tree.the-variants.{Pair, Bare}
@@ -33,8 +41,33 @@ none = Pair Nothing Nothing
 abbrev pub anyWord : Tree
 anyWord = Bare (Word (record { 0 = 0 }))
 
-abbrev pub anyDouble : Tree
-anyDouble = Bare (Double (record { 0 = 0 }))
+-- a register of the type's width
+abbrev pub typed : DataType → Operand
+typed B16 = operand.Half (record { 0 = 0 })
+typed B32 = operand.Word (record { 0 = 0 })
+typed B64 = operand.Double (record { 0 = 0 })
+typed U16 = operand.Half (record { 0 = 0 })
+typed U32 = operand.Word (record { 0 = 0 })
+typed U64 = operand.Double (record { 0 = 0 })
+typed S16 = operand.Half (record { 0 = 0 })
+typed S32 = operand.Word (record { 0 = 0 })
+typed S64 = operand.Double (record { 0 = 0 })
+typed F32 = operand.Word (record { 0 = 0 })
+typed F64 = operand.Double (record { 0 = 0 })
+
+-- a register that the row has as a and b
+abbrev pub rowOperand : Instruction → Operand
+rowOperand (Arithmetic op dtype sat s) = operand.Word (record { 0 = 0 })
+rowOperand (Vset cmp s) = operand.Word (record { 0 = 0 })
+rowOperand (VsetLanes cmp l) = operand.Word (record { 0 = 0 })
+rowOperand (ArithmeticLanes op dtype sat l) = operand.Word (record { 0 = 0 })
+rowOperand (Set dtype d s) = typed (s .stype)
+rowOperand (Setp d s) = typed (s .stype)
+rowOperand (Selp s c) = typed (s .dtype)
+rowOperand (Slct ctype s c) = typed (s .dtype)
+
+abbrev pub anyOf : Operand → Tree
+anyOf o = seenOperand (bare (operandPlace o))
 
 abbrev pub anyPred : Tree
 anyPred = Bare (Pred (record { 0 = 0 }))
@@ -57,11 +90,11 @@ unfoldable pub beginsFilled : Instruction → Operands → ℕ → Bool
 beginsFilled i o k =
     let t = tried i o k in
     let u = none in
+    let x = anyOf (rowOperand i) in
     let w = anyWord in
-    let q = anyDouble in
     let p = anyPred in
     cond (ltb 4 k) false
-    (t 0 u u u || (t 1 w u u || (t 2 w w u || (t 3 w w w || (t 1 q u u || (t 2 q q u || (t 1 p u u || (t 2 w p u || (t 3 w w p || (t 2 q p u || (t 3 q q p || (t 2 q w u || t 3 q q w))))))))))))
+    (t 0 u u u || (t 1 x u u || (t 2 x x u || (t 1 p u u || (t 2 x p u || (t 3 x x p || (t 1 w u u || (t 2 x w u || t 3 x x w))))))))
 
 -- where the reader stopped; if it did not, the first operand
 unfoldable pub guessOf : Filled → ℕ

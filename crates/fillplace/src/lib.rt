@@ -1,8 +1,12 @@
 // Where the operands of a line go wrong: the first that no legal list under this head has after the ones before it. The first operands are tried
 // with every ending that a list may need; what a legal list is, `fills` and `fits` decide.
 use fills::Filled;
+use record::Choice;
+use record::Comparison;
+use record::DataType;
 use record::Double;
 use record::Guard;
+use record::Half;
 use record::Instruction;
 use record::Pred;
 use record::Record;
@@ -14,7 +18,7 @@ use tree::Spot;
 use tree::Tree;
 ghost use mathlib.Core.Path.{_≡_};
 ghost use Rattle.begins.specs.Searches.{turnsAt, searched};
-ghost use Rattle.fillplace.specs.Tries.{fits, isFull, isFilled, none, anyWord, anyDouble, anyPred, entry, completed, tried, beginsFilled, guessOf, operandPlaceOf};
+ghost use Rattle.fillplace.specs.Tries.{fits, isFull, isFilled, none, anyWord, typed, rowOperand, anyOf, anyPred, entry, completed, tried, beginsFilled, guessOf, operandPlaceOf};
 
 // No list has more operands.
 const MOST: usize = 4;
@@ -57,10 +61,53 @@ fn any_word() -> Tree
     Tree::Bare(Place::Word(Word(0)))
 }
 
-fn any_double() -> Tree
-    ensures { λ r. ⌜ r ≡ anyDouble ⌝ }
+// A register of the type's width.
+fn any_typed(t: DataType) -> Tree
+    ensures { λ r. ⌜ r ≡ anyOf (typed t) ⌝ }
 {
-    Tree::Bare(Place::Double(Double(0)))
+    match t {
+        DataType::B16 => Tree::Bare(Place::Half(Half(0))),
+        DataType::B32 => Tree::Bare(Place::Word(Word(0))),
+        DataType::B64 => Tree::Bare(Place::Double(Double(0))),
+        DataType::U16 => Tree::Bare(Place::Half(Half(0))),
+        DataType::U32 => Tree::Bare(Place::Word(Word(0))),
+        DataType::U64 => Tree::Bare(Place::Double(Double(0))),
+        DataType::S16 => Tree::Bare(Place::Half(Half(0))),
+        DataType::S32 => Tree::Bare(Place::Word(Word(0))),
+        DataType::S64 => Tree::Bare(Place::Double(Double(0))),
+        DataType::F32 => Tree::Bare(Place::Word(Word(0))),
+        DataType::F64 => Tree::Bare(Place::Double(Double(0))),
+    }
+}
+
+fn any_compared(s: Comparison) -> Tree
+    ensures { λ r. ⌜ r ≡ anyOf (typed (s .stype)) ⌝ }
+{
+    let t = s.stype;
+    any_typed(t)
+}
+
+fn any_chosen(s: Choice) -> Tree
+    ensures { λ r. ⌜ r ≡ anyOf (typed (s .dtype)) ⌝ }
+{
+    let t = s.dtype;
+    any_typed(t)
+}
+
+// A register that the row has as a and b.
+fn any_of_row(i: Instruction) -> Tree
+    ensures { λ r. ⌜ r ≡ anyOf (rowOperand i) ⌝ }
+{
+    match i {
+        Instruction::Arithmetic { .. } => any_word(),
+        Instruction::Vset { .. } => any_word(),
+        Instruction::VsetLanes { .. } => any_word(),
+        Instruction::ArithmeticLanes { .. } => any_word(),
+        Instruction::Set { comparison, .. } => any_compared(comparison),
+        Instruction::Setp { comparison, .. } => any_compared(comparison),
+        Instruction::Selp { choice, .. } => any_chosen(choice),
+        Instruction::Slct { choice, .. } => any_chosen(choice),
+    }
 }
 
 fn any_pred() -> Tree
@@ -124,22 +171,17 @@ fn begins_filled(i: Instruction, o: Operands, k: usize) -> bool
     }
     let m = k as u8;
     let u = none();
+    let x = any_of_row(i);
     let w = any_word();
-    let q = any_double();
     let p = any_pred();
     tried(i, o, m, 0, u, u, u)
-        | (tried(i, o, m, 1, w, u, u)
-            | (tried(i, o, m, 2, w, w, u)
-                | (tried(i, o, m, 3, w, w, w)
-                    | (tried(i, o, m, 1, q, u, u)
-                        | (tried(i, o, m, 2, q, q, u)
-                            | (tried(i, o, m, 1, p, u, u)
-                                | (tried(i, o, m, 2, w, p, u)
-                                    | (tried(i, o, m, 3, w, w, p)
-                                        | (tried(i, o, m, 2, q, p, u)
-                                            | (tried(i, o, m, 3, q, q, p)
-                                                | (tried(i, o, m, 2, q, w, u)
-                                                    | tried(i, o, m, 3, q, q, w))))))))))))
+        | (tried(i, o, m, 1, x, u, u)
+            | (tried(i, o, m, 2, x, x, u)
+                | (tried(i, o, m, 1, p, u, u)
+                    | (tried(i, o, m, 2, x, p, u)
+                        | (tried(i, o, m, 3, x, x, p)
+                            | (tried(i, o, m, 1, w, u, u)
+                                | (tried(i, o, m, 2, x, w, u) | tried(i, o, m, 3, x, x, w))))))))
 }
 
 // Tried first, to save the search: where the reader stopped is mostly right.

@@ -70,6 +70,7 @@ use Rattle.fills.specs.declared.Filled.the-variants.{Full}
 
 operand-complete : (o : Operand) → bareOperand (seenOperand (bare (operandPlace o))) ≡ OperandFound.Is o
 operand-complete (Operand.Word w) = refl
+operand-complete (Operand.Half h) = refl
 operand-complete (Operand.Double d) = refl
 
 condition-complete : (c : Condition) → conditionOf (seenOperand (conditionTree c)) ≡ ConditionFound.Is c

@@ -36,7 +36,8 @@ use Rattle.record.specs.declared.SetType.{SetType}
 use Rattle.record.specs.declared.SlctType.{SlctType}
 use Rattle.record.specs.declared.Pred.{Pred}
 use Rattle.record.specs.declared.Word.{Word}
-use Rattle.record.specs.Registers.{word, double, pred, operandPlace, r, p}
+use Rattle.record.specs.declared.File.the-variants.{Words, Halves, Doubles, Preds}
+use Rattle.record.specs.Registers.{reg, operandPlace, r, p}
 use Rattle.rules.specs.Shape.{at, nothing, OperandTree, inverted, pair, bare, part}
 use Rattle.rules.specs.Names.{selectorName, maskName, digitsName}
 use Rattle.rules.specs.Grammar as grammar
@@ -109,9 +110,10 @@ WordIs o WordFound.Not = Unit {0}
 word-is : (o : OperandTree) → WordIs o (bareWord (seenOperand o))
 word-is (inverted q) = tt
 word-is (pair q s) = tt
-word-is (bare (word n)) = refl
-word-is (bare (double n)) = tt
-word-is (bare (pred n)) = tt
+word-is (bare (reg Words n)) = refl
+word-is (bare (reg Halves n)) = tt
+word-is (bare (reg Doubles n)) = tt
+word-is (bare (reg Preds n)) = tt
 word-is (part q n) = tt
 
 abbrev PredIs : OperandTree → PredFound → Type 0
@@ -121,9 +123,10 @@ PredIs o PredFound.Not = Unit {0}
 pred-is : (o : OperandTree) → PredIs o (barePred (seenOperand o))
 pred-is (inverted q) = tt
 pred-is (pair q s) = tt
-pred-is (bare (word n)) = tt
-pred-is (bare (double n)) = tt
-pred-is (bare (pred n)) = refl
+pred-is (bare (reg Words n)) = tt
+pred-is (bare (reg Halves n)) = tt
+pred-is (bare (reg Doubles n)) = tt
+pred-is (bare (reg Preds n)) = refl
 pred-is (part q n) = tt
 
 abbrev OperandIs : OperandTree → OperandFound → Type 0
@@ -133,9 +136,10 @@ OperandIs o OperandFound.Not = Unit {0}
 operand-is : (o : OperandTree) → OperandIs o (bareOperand (seenOperand o))
 operand-is (inverted q) = tt
 operand-is (pair q s) = tt
-operand-is (bare (word n)) = refl
-operand-is (bare (double n)) = refl
-operand-is (bare (pred n)) = tt
+operand-is (bare (reg Words n)) = refl
+operand-is (bare (reg Halves n)) = refl
+operand-is (bare (reg Doubles n)) = refl
+operand-is (bare (reg Preds n)) = tt
 operand-is (part q n) = tt
 
 abbrev ConditionIs : OperandTree → ConditionFound → Type 0
@@ -143,13 +147,15 @@ ConditionIs o (ConditionFound.Is c) = o ≡ conditionTree c
 ConditionIs o ConditionFound.Not = Unit {0}
 
 condition-is : (o : OperandTree) → ConditionIs o (conditionOf (seenOperand o))
-condition-is (inverted (word n)) = tt
-condition-is (inverted (double n)) = tt
-condition-is (inverted (pred n)) = refl
+condition-is (inverted (reg Words n)) = tt
+condition-is (inverted (reg Halves n)) = tt
+condition-is (inverted (reg Doubles n)) = tt
+condition-is (inverted (reg Preds n)) = refl
 condition-is (pair q s) = tt
-condition-is (bare (word n)) = tt
-condition-is (bare (double n)) = tt
-condition-is (bare (pred n)) = refl
+condition-is (bare (reg Words n)) = tt
+condition-is (bare (reg Halves n)) = tt
+condition-is (bare (reg Doubles n)) = tt
+condition-is (bare (reg Preds n)) = refl
 condition-is (part q n) = tt
 
 abbrev DestinationIs : OperandTree → DestinationFound → Type 0
@@ -158,19 +164,23 @@ DestinationIs o DestinationFound.Not = Unit {0}
 
 destination-is : (o : OperandTree) → DestinationIs o (destinationOf (seenOperand o))
 destination-is (inverted q) = tt
-destination-is (pair (at (word n)) s) = tt
-destination-is (pair (at (double n)) s) = tt
-destination-is (pair (at (pred n)) (at (word m))) = tt
-destination-is (pair (at (pred n)) (at (double m))) = tt
-destination-is (pair (at (pred n)) (at (pred m))) = refl
-destination-is (pair (at (pred n)) nothing) = refl
-destination-is (pair nothing (at (word m))) = tt
-destination-is (pair nothing (at (double m))) = tt
-destination-is (pair nothing (at (pred m))) = refl
+destination-is (pair (at (reg Words n)) s) = tt
+destination-is (pair (at (reg Halves n)) s) = tt
+destination-is (pair (at (reg Doubles n)) s) = tt
+destination-is (pair (at (reg Preds n)) (at (reg Words m))) = tt
+destination-is (pair (at (reg Preds n)) (at (reg Halves m))) = tt
+destination-is (pair (at (reg Preds n)) (at (reg Doubles m))) = tt
+destination-is (pair (at (reg Preds n)) (at (reg Preds m))) = refl
+destination-is (pair (at (reg Preds n)) nothing) = refl
+destination-is (pair nothing (at (reg Words m))) = tt
+destination-is (pair nothing (at (reg Halves m))) = tt
+destination-is (pair nothing (at (reg Doubles m))) = tt
+destination-is (pair nothing (at (reg Preds m))) = refl
 destination-is (pair nothing nothing) = tt
-destination-is (bare (word n)) = tt
-destination-is (bare (double n)) = tt
-destination-is (bare (pred n)) = refl
+destination-is (bare (reg Words n)) = tt
+destination-is (bare (reg Halves n)) = tt
+destination-is (bare (reg Doubles n)) = tt
+destination-is (bare (reg Preds n)) = refl
 destination-is (part q n) = tt
 
 abbrev SelectedIs : OperandTree → SelectedFound → Type 0
@@ -180,19 +190,21 @@ SelectedIs o SelectedFound.Not = Unit {0}
 selected-is : (o : OperandTree) → GoodOperand o → SelectedIs o (selectedFrom (seenOperand o))
 selected-is (inverted q) g = tt
 selected-is (pair q s) g = tt
-selected-is (bare (word n)) g = refl
-selected-is (bare (double n)) g = tt
-selected-is (bare (pred n)) g = tt
-selected-is (part (word n) w) g = go (selectorOf (codeOf w)) refl
+selected-is (bare (reg Words n)) g = refl
+selected-is (bare (reg Halves n)) g = tt
+selected-is (bare (reg Doubles n)) g = tt
+selected-is (bare (reg Preds n)) g = tt
+selected-is (part (reg Words n) w) g = go (selectorOf (codeOf w)) refl
   where
-    go : (f : SelectorName) → selectorOf (codeOf w) ≡ f → SelectedIs (part (word n) w) (partBy (WordFound.Is (record { 0 = n })) f)
+    go : (f : SelectorName) → selectorOf (codeOf w) ≡ f → SelectedIs (part (reg Words n) w) (partBy (WordFound.Is (record { 0 = n })) f)
     go (SelectorName.Is s) e =
         let c = selector-sound (codeOf w) s e in
         let k = short-name (selectorName s) (c .short) in
-        ap (part (word n)) (code-known w (selectorName s) (g .1) (k .0) (k .1) (c .code))
+        ap (part (reg Words n)) (code-known w (selectorName s) (g .1) (k .0) (k .1) (c .code))
     go SelectorName.Not e = tt
-selected-is (part (double n) w) g = tt
-selected-is (part (pred n) w) g = tt
+selected-is (part (reg Halves n) w) g = tt
+selected-is (part (reg Doubles n) w) g = tt
+selected-is (part (reg Preds n) w) g = tt
 
 -- d of the forms with 2 and 4: bare or with its mask written
 abbrev MaskedIs : LaneWidth → OperandTree → MaskedFound → Type 0
@@ -202,17 +214,19 @@ MaskedIs w o MaskedFound.Not = Unit {0}
 masked-is : (w : LaneWidth) (o : OperandTree) → GoodOperand o → MaskedIs w o (maskedFrom w (seenOperand o))
 masked-is w (inverted q) g = tt
 masked-is w (pair q s) g = tt
-masked-is Half (bare (word n)) g = (as-standard refl, refl)
-masked-is Byte (bare (word n)) g = (as-standard refl, refl)
-masked-is w (bare (double n)) g = tt
-masked-is w (bare (pred n)) g = tt
-masked-is w (part (word n) k) g = go (maskOf w (codeOf k)) (mask-sound w (codeOf k))
+masked-is Half (bare (reg Words n)) g = (as-standard refl, refl)
+masked-is Byte (bare (reg Words n)) g = (as-standard refl, refl)
+masked-is w (bare (reg Halves n)) g = tt
+masked-is w (bare (reg Doubles n)) g = tt
+masked-is w (bare (reg Preds n)) g = tt
+masked-is w (part (reg Words n) k) g = go (maskOf w (codeOf k)) (mask-sound w (codeOf k))
   where
-    go : (f : MaskFound) → MaskIs w (codeOf k) f → MaskedIs w (part (word n) k) (maskedBy (WordFound.Is (record { 0 = n })) f)
-    go (MaskFound.Is m) e = (as-written (ap (part (word n)) (mask-known w m k (g .1) (e .0))), e .1)
+    go : (f : MaskFound) → MaskIs w (codeOf k) f → MaskedIs w (part (reg Words n) k) (maskedBy (WordFound.Is (record { 0 = n })) f)
+    go (MaskFound.Is m) e = (as-written (ap (part (reg Words n)) (mask-known w m k (g .1) (e .0))), e .1)
     go MaskFound.Not e = tt
-masked-is w (part (double n) k) g = tt
-masked-is w (part (pred n) k) g = tt
+masked-is w (part (reg Halves n) k) g = tt
+masked-is w (part (reg Doubles n) k) g = tt
+masked-is w (part (reg Preds n) k) g = tt
 
 -- a and b of the forms with 2 and 4: bare or with the selector written
 abbrev LanedIs : LaneWidth → Digits → OperandTree → LanedFound → Type 0
@@ -227,16 +241,18 @@ same-itself s =
 laned-is : (w : LaneWidth) (default : Digits) → digitsFit w default ≡ true → (o : OperandTree) → GoodOperand o → LanedIs w default o (lanedFrom w default (seenOperand o))
 laned-is w s f (inverted q) g = tt
 laned-is w s f (pair q t) g = tt
-laned-is w s f (bare (word n)) g = (as-standard (rw (same-itself s)), f)
-laned-is w s f (bare (double n)) g = tt
-laned-is w s f (bare (pred n)) g = tt
-laned-is w s f (part (word n) k) g = go (digitsNamed w (codeOf k)) (digits-sound w (codeOf k))
+laned-is w s f (bare (reg Words n)) g = (as-standard (rw (same-itself s)), f)
+laned-is w s f (bare (reg Halves n)) g = tt
+laned-is w s f (bare (reg Doubles n)) g = tt
+laned-is w s f (bare (reg Preds n)) g = tt
+laned-is w s f (part (reg Words n) k) g = go (digitsNamed w (codeOf k)) (digits-sound w (codeOf k))
   where
-    go : (d : DigitsFound) → DigitsIs w (codeOf k) d → LanedIs w s (part (word n) k) (lanedBy (WordFound.Is (record { 0 = n })) d)
-    go (DigitsFound.Is t) e = (as-written (ap (part (word n)) (digits-known w t k (g .1) (e .0))), e .1)
+    go : (d : DigitsFound) → DigitsIs w (codeOf k) d → LanedIs w s (part (reg Words n) k) (lanedBy (WordFound.Is (record { 0 = n })) d)
+    go (DigitsFound.Is t) e = (as-written (ap (part (reg Words n)) (digits-known w t k (g .1) (e .0))), e .1)
     go DigitsFound.Not e = tt
-laned-is w s f (part (double n) k) g = tt
-laned-is w s f (part (pred n) k) g = tt
+laned-is w s f (part (reg Halves n) k) g = tt
+laned-is w s f (part (reg Doubles n) k) g = tt
+laned-is w s f (part (reg Preds n) k) g = tt
 
 a-fits : (w : LaneWidth) → digitsFit w (defaultA w) ≡ true
 a-fits Half = refl

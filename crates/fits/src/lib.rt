@@ -6,6 +6,7 @@ use record::Comparison;
 use record::DataType;
 use record::Digits;
 use record::Double;
+use record::Half;
 use record::Instruction;
 use record::Kind;
 use record::LaneWidth;
@@ -21,6 +22,8 @@ ghost use Rattle.record.specs.Operands.{typeBits, operandBits, byWidth, someLan
 // The widths of what the files hold.
 const WORD_BITS: u8 = 32;
 
+const HALF_BITS: u8 = 16;
+
 const DOUBLE_BITS: u8 = 64;
 
 // ---- modifiers
@@ -29,10 +32,13 @@ fn kind_of(t: DataType) -> Kind
     ensures { λ r. ⌜ r ≡ kindOf t ⌝ }
 {
     match t {
+        DataType::B16 => Kind::B,
         DataType::B32 => Kind::B,
         DataType::B64 => Kind::B,
+        DataType::U16 => Kind::U,
         DataType::U32 => Kind::U,
         DataType::U64 => Kind::U,
+        DataType::S16 => Kind::S,
         DataType::S32 => Kind::S,
         DataType::S64 => Kind::S,
         DataType::F32 => Kind::F,
@@ -108,10 +114,13 @@ fn is_f32(t: DataType) -> bool
     ensures { λ r. ⌜ r ≡ isF32 t ⌝ }
 {
     match t {
+        DataType::B16 => false,
         DataType::B32 => false,
         DataType::B64 => false,
+        DataType::U16 => false,
         DataType::U32 => false,
         DataType::U64 => false,
+        DataType::S16 => false,
         DataType::S32 => false,
         DataType::S64 => false,
         DataType::F32 => true,
@@ -215,10 +224,13 @@ fn type_bits(t: DataType) -> u8
     ensures { λ r. ⌜ r ≡ typeBits t ⌝ }
 {
     match t {
+        DataType::B16 => HALF_BITS,
         DataType::B32 => WORD_BITS,
         DataType::B64 => DOUBLE_BITS,
+        DataType::U16 => HALF_BITS,
         DataType::U32 => WORD_BITS,
         DataType::U64 => DOUBLE_BITS,
+        DataType::S16 => HALF_BITS,
         DataType::S32 => WORD_BITS,
         DataType::S64 => DOUBLE_BITS,
         DataType::F32 => WORD_BITS,
@@ -231,6 +243,7 @@ fn operand_bits(o: Operand) -> u8
 {
     match o {
         Operand::Word(_) => WORD_BITS,
+        Operand::Half(_) => HALF_BITS,
         Operand::Double(_) => DOUBLE_BITS,
     }
 }

@@ -25,16 +25,19 @@ use Rattle.kinds.specs.declared.DestinationFound.{DestinationFound}
 
 abbrev pub asWord : Place → WordFound
 asWord (place.Word w) = WordFound.Is w
+asWord (place.Half h) = WordFound.Not
 asWord (place.Double d) = WordFound.Not
 asWord (place.Pred q) = WordFound.Not
 
 abbrev pub asPred : Place → PredFound
 asPred (place.Word w) = PredFound.Not
+asPred (place.Half h) = PredFound.Not
 asPred (place.Double d) = PredFound.Not
 asPred (place.Pred q) = PredFound.Is q
 
 abbrev pub asOperand : Place → OperandFound
 asOperand (place.Word w) = OperandFound.Is (Operand.Word w)
+asOperand (place.Half h) = OperandFound.Is (Operand.Half h)
 asOperand (place.Double d) = OperandFound.Is (Operand.Double d)
 asOperand (place.Pred q) = OperandFound.Not
 

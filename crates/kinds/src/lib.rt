@@ -32,6 +32,7 @@ pub fn word_of(p: Place) -> WordFound
 {
     match p {
         Place::Word(w) => WordFound::Is(w),
+        Place::Half(_) => WordFound::Not,
         Place::Double(_) => WordFound::Not,
         Place::Pred(_) => WordFound::Not,
     }
@@ -42,6 +43,7 @@ fn pred_of(p: Place) -> PredFound
 {
     match p {
         Place::Word(_) => PredFound::Not,
+        Place::Half(_) => PredFound::Not,
         Place::Double(_) => PredFound::Not,
         Place::Pred(q) => PredFound::Is(q),
     }
@@ -52,6 +54,7 @@ fn operand_of(p: Place) -> OperandFound
 {
     match p {
         Place::Word(w) => OperandFound::Is(Operand::Word(w)),
+        Place::Half(h) => OperandFound::Is(Operand::Half(h)),
         Place::Double(d) => OperandFound::Is(Operand::Double(d)),
         Place::Pred(_) => OperandFound::Not,
     }

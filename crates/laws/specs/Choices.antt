@@ -8,7 +8,7 @@ use Rattle.record.specs.declared.VideoType.{VideoType}
 use Rattle.record.specs.declared.SetType
 use Rattle.record.specs.declared.SetType.{SetType}
 use Rattle.record.specs.declared.DataType.{DataType}
-use Rattle.record.specs.declared.DataType.the-variants.{B32, B64, U32, U64, S32, S64, F32, F64}
+use Rattle.record.specs.declared.DataType.the-variants.{B16, B32, B64, U16, U32, U64, S16, S32, S64, F32, F64}
 use Rattle.record.specs.declared.Cmp6.{Cmp6}
 use Rattle.record.specs.declared.Cmp6.the-variants.{Eq, Ne, Lt, Le, Gt, Ge}
 use Rattle.record.specs.declared.CmpU.the-variants.{Lo, Ls, Hi, Hs}
@@ -47,17 +47,20 @@ setTypes = record { list = SetType.U32 ∷ SetType.S32 ∷ SetType.F32 ∷ []; l
 
 -- stype, selp's type, slct's dtype
 abbrev pub types : Values DataType
-types = record { list = B32 ∷ B64 ∷ U32 ∷ U64 ∷ S32 ∷ S64 ∷ F32 ∷ F64 ∷ []; listed = place }
+types = record { list = B16 ∷ B32 ∷ B64 ∷ U16 ∷ U32 ∷ U64 ∷ S16 ∷ S32 ∷ S64 ∷ F32 ∷ F64 ∷ []; listed = place }
   where
-    place : (t : DataType) → (i : ℕ) × StandsAt i (B32 ∷ B64 ∷ U32 ∷ U64 ∷ S32 ∷ S64 ∷ F32 ∷ F64 ∷ []) t
-    place B32 = (0, refl)
-    place B64 = (1, refl)
-    place U32 = (2, refl)
-    place U64 = (3, refl)
-    place S32 = (4, refl)
-    place S64 = (5, refl)
-    place F32 = (6, refl)
-    place F64 = (7, refl)
+    place : (t : DataType) → (i : ℕ) × StandsAt i (B16 ∷ B32 ∷ B64 ∷ U16 ∷ U32 ∷ U64 ∷ S16 ∷ S32 ∷ S64 ∷ F32 ∷ F64 ∷ []) t
+    place B16 = (0, refl)
+    place B32 = (1, refl)
+    place B64 = (2, refl)
+    place U16 = (3, refl)
+    place U32 = (4, refl)
+    place U64 = (5, refl)
+    place S16 = (6, refl)
+    place S32 = (7, refl)
+    place S64 = (8, refl)
+    place F32 = (9, refl)
+    place F64 = (10, refl)
 
 -- CMP6
 abbrev pub sixes : Values Cmp6

@@ -6,7 +6,7 @@ use mathlib.Core.Bool.{Bool, true, false}
 use lib.IntN.{ℤ, _+ℤ_}
 use Rattle.signs.specs.Lists.{Listed}
 use Rattle.signs.specs.Lists.Listed.{here, later}
-use Rattle.record.specs.Registers.{Files, files, r, numberOf, at, Inside, wordInFile}
+use Rattle.record.specs.Registers.{Files, files, r, numberOf, at, Inside, isInside}
 use Rattle.record.specs.Refusals.{Legal}
 use Rattle.record.specs.declared.Word.{Word}
 use Rattle.record.specs.declared.Arith.{Arith}
@@ -38,13 +38,13 @@ module _ (x : Record) (legal : Legal x) (op : Arith) (dtype : VideoType) (l : La
   abbrev partLine : ℕ → Word → Record
   partLine i c = record { guard = x .guard; instruction = scalarOf (computes Vadd dtype false) (partScalar dtype t (partSelector (l .width) i) e c) }
 
-  c-range : wordInFile (l .c) ≡ true
+  c-range : isInside (r (l .c)) ≡ true
   c-range = registers-range x legal (computes op dtype true) l is .3
 
   clamp-legal : (i : ℕ) → Legal (clampLine i)
   clamp-legal i = lane-legal x legal (computes op dtype true) l is i (Merge t (partSelector (l .width) i) t) (rw (word-range t in-t))
 
-  part-legal : (i : ℕ) (c : Word) → wordInFile c ≡ true → Legal (partLine i c)
+  part-legal : (i : ℕ) (c : Word) → isInside (r c) ≡ true → Legal (partLine i c)
   part-legal i c k =
       scalar-fits (x .guard) (computes Vadd dtype false) (partScalar dtype t (partSelector (l .width) i) e c) (guard-range x legal (computes op dtype true) l is)
       (rw (word-range e in-e, word-range t in-t, k))
@@ -53,7 +53,7 @@ module _ (x : Record) (legal : Legal x) (op : Arith) (dtype : VideoType) (l : La
   pub clamped-scalar : (y : Record) → Listed y (clampedApart (x .guard) op dtype l t e) → ScalarLine (x .guard) y
   clamped-scalar y m = lanes-each (clampedLines (x .guard) op dtype l t e) l e (ScalarLine (x .guard)) (word-range e in-e) each c-range y m
     where
-      each : (i : ℕ) (c : Word) → wordInFile c ≡ true → (y : Record) → Listed y (clampedLines (x .guard) op dtype l t e i c) → ScalarLine (x .guard) y
+      each : (i : ℕ) (c : Word) → isInside (r c) ≡ true → (y : Record) → Listed y (clampedLines (x .guard) op dtype l t e i c) → ScalarLine (x .guard) y
       each i c k y (here q) =
           rw q (record { legal = clamp-legal i; guarded = refl; o = computes op dtype true; s = laneScalar l i (Merge t (partSelector (l .width) i) t); scalar = refl })
       each i c k y (later (here q)) =
@@ -74,7 +74,7 @@ module _ (x : Record) (legal : Legal x) (op : Arith) (dtype : VideoType) (l : La
         ∙ rw
         (scalar-writes (computes op dtype true) (laneScalar l i (Merge t (partSelector (l .width) i) t)) g, selector-width (l .width) i, selector-part (l .width) i h, at-width (g .words) l (fits x legal (computes op dtype true) l is .1) (fits x legal (computes op dtype true) l is .2) i h (Merge t (partSelector (l .width) i) t) (computes op dtype true))
 
-    part-run : (c : Word) → wordInFile c ≡ true
+    part-run : (c : Word) → isInside (r c) ≡ true
         → run (partLine i c) g .files
         ≡ put (r e) (lowOf wordSize (exactOf (isSigned dtype) (laneSize (l .width)) (partAt (laneSize (l .width)) (at g (r t)) i) +ℤ exactOf (isSigned dtype) wordSize (at g (r c)))) g
     unfolding after formOf
@@ -85,7 +85,7 @@ module _ (x : Record) (legal : Legal x) (op : Arith) (dtype : VideoType) (l : La
 
   module _ (adds : l .add ≡ true) (t-not-e : t .0 ≡ e .0 → ⊥) (t-not-a : t .0 ≡ l .a .0 → ⊥) (t-not-b : t .0 ≡ l .b .0 → ⊥) (t-not-c : t .0 ≡ l .c .0 → ⊥) (e-not-a : e .0 ≡ l .a .0 → ⊥) (e-not-b : e .0 ≡ l .b .0 → ⊥) where
     -- both lines of a lane
-    two-run : (g : Files) (ok : Admitted g) (holds : guardHolds (g .preds) (x .guard) ≡ true) (i : ℕ) (h : i < lanes (l .width)) (c : Word) → wordInFile c ≡ true → (t .0 ≡ c .0 → ⊥)
+    two-run : (g : Files) (ok : Admitted g) (holds : guardHolds (g .preds) (x .guard) ≡ true) (i : ℕ) (h : i < lanes (l .width)) (c : Word) → isInside (r c) ≡ true → (t .0 ≡ c .0 → ⊥)
         → run (partLine i c) (run (clampLine i) g .files) .files
         ≡ put (r e) (stepOf l (isSigned dtype) i (at g (r c)) (resultIn g ok holds i h)) (put (r t) (clampedWord g ok holds i h) g)
     two-run g ok holds i h c k t-not =

@@ -10,13 +10,14 @@ use lib.IntN.{ℤ}
 use borrow.Author.Tests.{lt-ltb}
 use Rattle.signs.specs.Lists.{Listed}
 use Rattle.signs.specs.Lists.Listed.{here, later}
-use Rattle.record.specs.Registers.{Files, files, word, r, at, Inside, wordInFile, wordCount}
+use Rattle.record.specs.Registers.{Files, withFile, word, r, at, Inside, isInside, wordCount}
 use Rattle.record.specs.Operands.{maskFits}
 use Rattle.record.specs.Refusals.{Legal}
 use Rattle.record.specs.declared.Word.{Word}
 use Rattle.record.specs.declared.LaneWidth.{LaneWidth}
 use Rattle.record.specs.declared.LaneWidth.the-variants.{Half, Byte}
 use Rattle.record.specs.declared.Mask.{Mask}
+use Rattle.record.specs.declared.File.the-variants.{Words}
 use Rattle.record.specs.declared.Lanes.{Lanes}
 use Rattle.record.specs.declared.Scalar.{Scalar}
 use Rattle.record.specs.declared.Guard.{Guard}
@@ -32,12 +33,12 @@ use Rattle.laws.specs.LaneLaws.{isSignedOf, scalarZ, stepOf, past-unmask
 
 -- ==== a word put into the files
 
-pub word-range : (w : Word) → Inside (r w) → wordInFile w ≡ true
+pub word-range : (w : Word) → Inside (r w) → isInside (r w) ≡ true
 word-range w h = lt-ltb (w .0) wordCount h
 
 -- the files with other words
 abbrev with-words : Files → List ℕ → Files
-with-words f ws = files ws (f .doubles) (f .preds)
+with-words f ws = withFile Words ws f
 
 pub put-put : (n u v : ℕ) (f : Files) → put (word n) v (put (word n) u f) ≡ put (word n) v f
 put-put n u v f = ap (with-words f) (set-set (f .words) n u v)
@@ -125,17 +126,17 @@ run-append (x ∷ xs) ys f = run-append xs ys (run x f .files)
 
 module _ (of : ℕ → Word → List Record) (l : Lanes) (e : Word) where
   -- what holds of the lines of each lane, whichever register of the file they take, holds of all
-  module _ (P : Record → Type 0) (in-e : wordInFile e ≡ true) (each : (i : ℕ) (c : Word) → wordInFile c ≡ true → (y : Record) → Listed y (of i c) → P y) where
-    from-each : (n i : ℕ) (c : Word) → wordInFile c ≡ true → (y : Record) → Listed y (linesFrom of (l .mask) e n i c) → P y
+  module _ (P : Record → Type 0) (in-e : isInside (r e) ≡ true) (each : (i : ℕ) (c : Word) → isInside (r c) ≡ true → (y : Record) → Listed y (of i c) → P y) where
+    from-each : (n i : ℕ) (c : Word) → isInside (r c) ≡ true → (y : Record) → Listed y (linesFrom of (l .mask) e n i c) → P y
     from-each (suc n) i c k y m = go (maskAt (l .mask) i) m (λ d h. from-each n (suc i) d h y)
       where
         go : (m : Bool) → Listed y (cond m (of i c ++ linesFrom of (l .mask) e n (suc i) e) (linesFrom of (l .mask) e n (suc i) c))
-            → ((d : Word) → wordInFile d ≡ true → Listed y (linesFrom of (l .mask) e n (suc i) d) → P y)
+            → ((d : Word) → isInside (r d) ≡ true → Listed y (linesFrom of (l .mask) e n (suc i) d) → P y)
             → P y
         go true q next = listed-among y (of i c) (linesFrom of (l .mask) e n (suc i) e) (each i c k y) (next e in-e) q
         go false q next = next c k q
 
-    pub lanes-each : wordInFile (l .c) ≡ true → (y : Record) → Listed y (allLanes l of e) → P y
+    pub lanes-each : isInside (r (l .c)) ≡ true → (y : Record) → Listed y (allLanes l of e) → P y
     lanes-each k y m = from-each (lanes (l .width)) 0 (l .c) k y m
 
   -- what is left with v in e: where each lane's lines lead from there to one step more, all of them lead to the group of lanes

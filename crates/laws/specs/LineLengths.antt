@@ -183,6 +183,7 @@ form-short (Combine op d c) h = let k = simp and-eq-true-iff at h in simp length
 
 operand-short : (o : Operand) → operandInRange o ≡ true → length (operandText (bare (operandPlace o))) ≤ 5
 operand-short (Operand.Word w) h = omega (arith, number-short)
+operand-short (Operand.Half n) h = omega (arith, number-short)
 operand-short (Operand.Double d) h = omega (arith, number-short)
 
 destination-short : (d : Destination) → destinationInRange d ≡ true → length (operandText (destinationTree d)) ≤ 9
@@ -240,15 +241,15 @@ instruction-short (ArithmeticLanes op dtype sat l) h =
     (omega (arith, lane-arith-short op (l .width), braced-short sat (bytes "sat"), braced-short (l .add) (bytes "add"), lanes-short l h))
 instruction-short (Set dtype d s) h =
     let k = simp and-eq-true-iff at h in
-    simp lengths (omega (arith, cmp-short (s .cmp), braced-short (s .ftz) (bytes "ftz"), number-short, operand-short, combination-short))
+    simp lengths (omega (arith, cmp-short (s .cmp), braced-short (s .ftz) (bytes "ftz"), number-short, operand-short (s .a) (k .1 .0 .0), operand-short (s .b) (k .1 .0 .1), combination-short))
 instruction-short (Setp d s) h =
     let k = simp and-eq-true-iff at h in
-    simp lengths (omega (arith, cmp-short (s .cmp), braced-short (s .ftz) (bytes "ftz"), destination-short, operand-short, combination-short))
-instruction-short (Selp s c) h = let k = simp and-eq-true-iff at h in simp lengths (omega (arith, number-short, operand-short))
-instruction-short (Slct SlctType.S32 s c) h = let k = simp and-eq-true-iff at h in simp lengths (omega (arith, number-short, operand-short))
+    simp lengths (omega (arith, cmp-short (s .cmp), braced-short (s .ftz) (bytes "ftz"), destination-short, operand-short (s .a) (k .1 .0 .0), operand-short (s .b) (k .1 .0 .1), combination-short))
+instruction-short (Selp s c) h = let k = simp and-eq-true-iff at h in simp lengths (omega (arith, number-short, operand-short (s .d) (k .0 .0 .0), operand-short (s .a) (k .0 .0 .1), operand-short (s .b) (k .0 .1)))
+instruction-short (Slct SlctType.S32 s c) h = let k = simp and-eq-true-iff at h in simp lengths (omega (arith, number-short, operand-short (s .d) (k .0 .0 .0), operand-short (s .a) (k .0 .0 .1), operand-short (s .b) (k .0 .1)))
 instruction-short (Slct (SlctType.F32 ftz) s c) h =
     let k = simp and-eq-true-iff at h in
-    simp lengths (omega (arith, braced-short ftz (bytes "ftz"), number-short, operand-short))
+    simp lengths (omega (arith, braced-short ftz (bytes "ftz"), number-short, operand-short (s .d) (k .0 .0 .0), operand-short (s .a) (k .0 .0 .1), operand-short (s .b) (k .0 .1)))
 
 abbrev pub longestLine : ℕ
 longestLine = 77

@@ -11,10 +11,11 @@ use borrow.Table.Elements.{map-app}
 use Rattle.signs.specs.Text.{bytes}
 use borrow.Author.Tests.{ltb-true, ltb-false, eqb-true, eq-eqb, not-false}
 use Rattle.base.specs.Values.{every, every-append}
-use Rattle.record.specs.Registers.{Place, word, double, pred, r, p, operandPlace, Inside, numberOf, fileSize}
+use Rattle.record.specs.Registers.{Place, reg, pred, r, p, operandPlace, Inside, isInside, numberOf, fileSize}
 use Rattle.record.specs.Modifiers.{modifiersFit}
 use Rattle.record.specs.Operands.{operandsFit, fullMask, defaultA, defaultB}
 use Rattle.record.specs.Refusals.{isLegal, Legal, numbersInRange, instructionInRange, lanesInRange, choiceInRange, selectedInRange, formInRange, destinationInRange, combinationInRange, operandInRange, guardInRange, pairApart, instructionApart, destinationApart}
+use Rattle.record.specs.declared.File.the-variants.{Words, Halves, Doubles, Preds}
 use Rattle.record.specs.declared.Guard.{Guard}
 use Rattle.record.specs.declared.Guard.the-variants.{Always, When}
 use Rattle.record.specs.declared.Selected.{Selected}
@@ -163,10 +164,6 @@ shown (Slct ctype s c) = refl
 
 -- ==== legal numbers
 
--- the register is in its file
-abbrev isInside : Place → Bool
-isInside q = ltb (numberOf q) (fileSize q)
-
 -- the same tests, in the order of the line and in that of the definition
 of-1 : (a : Bool) → a && true ≡ a
 of-1 true = refl
@@ -197,10 +194,6 @@ selected-inside : (s : Selected) → isInside (r (selectedWord s)) ≡ selectedI
 selected-inside (Whole w) = refl
 selected-inside (Part w sel) = refl
 
-operand-inside : (o : Operand) → isInside (operandPlace o) ≡ operandInRange o
-operand-inside (Operand.Word w) = refl
-operand-inside (Operand.Double d) = refl
-
 scalar-inside : (f : Form) (a b : Selected)
     → every isInside (r (formD f) ∷ r (selectedWord a) ∷ r (selectedWord b) ∷ formSources f) ≡ formInRange f && selectedInRange a && selectedInRange b
 scalar-inside (Plain d) a b = rw (selected-inside a, selected-inside b) (of-3 (isInside (r d)) (selectedInRange a) (selectedInRange b))
@@ -211,9 +204,8 @@ scalar-inside (Combine op d c) a b =
 
 comparison-inside : (c : Combination) (a b : Operand)
     → every isInside (operandPlace a ∷ operandPlace b ∷ combinationSources c) ≡ operandInRange a && operandInRange b && combinationInRange c
-comparison-inside Alone a b = rw (operand-inside a, operand-inside b) (of-2 (operandInRange a) (operandInRange b))
-comparison-inside (With op c) a b =
-    rw (operand-inside a, operand-inside b) (of-3 (operandInRange a) (operandInRange b) (isInside (p (c .pred))))
+comparison-inside Alone a b = of-2 (operandInRange a) (operandInRange b)
+comparison-inside (With op c) a b = of-3 (operandInRange a) (operandInRange b) (isInside (p (c .pred)))
 
 destination-inside : (d : Destination) → every isInside (destinationPlaces d) ≡ destinationInRange d
 destination-inside (One a) = of-1 (isInside (p a))
@@ -230,9 +222,7 @@ lanes-inside l = of-4 (isInside (r (l .d))) (isInside (r (l .a))) (isInside (r (
 
 choice-inside : (s : Choice) (c : Place)
     → every isInside (operandPlace (s .d) ∷ operandPlace (s .a) ∷ operandPlace (s .b) ∷ c ∷ []) ≡ choiceInRange s && isInside c
-choice-inside s c =
-    rw (operand-inside (s .d), operand-inside (s .a), operand-inside (s .b))
-    (of-4 (operandInRange (s .d)) (operandInRange (s .a)) (operandInRange (s .b)) (isInside c))
+choice-inside s c = of-4 (operandInRange (s .d)) (operandInRange (s .a)) (operandInRange (s .b)) (isInside c)
 
 instruction-inside : (i : Instruction) → every isInside (destinations i ++ sources i) ≡ instructionInRange i
 instruction-inside (Arithmetic op dtype sat s) = scalar-inside (s .form) (s .a) (s .b)
@@ -279,12 +269,14 @@ legal-inside x h q e = ltb-true (numberOf q) (fileSize q) (of-every isInside (na
 
 -- a pair of twice the same predicate
 abbrev pub isEqualPair : OperandTree → Bool
-isEqualPair (pair (at (pred n)) (at (pred m))) = eqb n m
-isEqualPair (pair (at (pred n)) (at (word m))) = false
-isEqualPair (pair (at (pred n)) (at (double m))) = false
-isEqualPair (pair (at (pred n)) nothing) = false
-isEqualPair (pair (at (word n)) v) = false
-isEqualPair (pair (at (double n)) v) = false
+isEqualPair (pair (at (reg Preds n)) (at (reg Preds m))) = eqb n m
+isEqualPair (pair (at (reg Preds n)) (at (reg Words m))) = false
+isEqualPair (pair (at (reg Preds n)) (at (reg Halves m))) = false
+isEqualPair (pair (at (reg Preds n)) (at (reg Doubles m))) = false
+isEqualPair (pair (at (reg Preds n)) nothing) = false
+isEqualPair (pair (at (reg Words n)) v) = false
+isEqualPair (pair (at (reg Halves n)) v) = false
+isEqualPair (pair (at (reg Doubles n)) v) = false
 isEqualPair (pair nothing v) = false
 isEqualPair (inverted q) = false
 isEqualPair (bare q) = false
@@ -430,12 +422,14 @@ apart-spelled t x s e n h =
 
 -- only a pair of twice the same predicate is one
 equal-pair : (o : OperandTree) → isNoPair o ≡ false → (n : ℕ) × (o ≡ pair (at (pred n)) (at (pred n)))
-equal-pair (pair (at (pred n)) (at (pred m))) e = (n, ap (λ (k : ℕ). pair (at (pred n)) (at (pred k))) (sym (eqb-true n m (not-false _ e))))
-equal-pair (pair (at (pred n)) (at (word m))) e = off e
-equal-pair (pair (at (pred n)) (at (double m))) e = off e
-equal-pair (pair (at (pred n)) nothing) e = off e
-equal-pair (pair (at (word n)) v) e = off e
-equal-pair (pair (at (double n)) v) e = off e
+equal-pair (pair (at (reg Preds n)) (at (reg Preds m))) e = (n, ap (λ (k : ℕ). pair (at (pred n)) (at (pred k))) (sym (eqb-true n m (not-false _ e))))
+equal-pair (pair (at (reg Preds n)) (at (reg Words m))) e = off e
+equal-pair (pair (at (reg Preds n)) (at (reg Halves m))) e = off e
+equal-pair (pair (at (reg Preds n)) (at (reg Doubles m))) e = off e
+equal-pair (pair (at (reg Preds n)) nothing) e = off e
+equal-pair (pair (at (reg Words n)) v) e = off e
+equal-pair (pair (at (reg Halves n)) v) e = off e
+equal-pair (pair (at (reg Doubles n)) v) e = off e
 equal-pair (pair nothing v) e = off e
 equal-pair (inverted q) e = off e
 equal-pair (bare q) e = off e

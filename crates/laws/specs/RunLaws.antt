@@ -9,8 +9,10 @@ use lib.Seq.{getD-set-same, getD-set-other}
 use lib.Dec.{eqb}
 use lib.IntN.{pos, _+ℤ_}
 use borrow.Author.Tests.{eqb-true, eq-eqb}
-use Rattle.record.specs.Registers.{Files, Place, word, double, pred, r, p, operandPlace, at, Inside, SameLengths, wordCount, doubleCount, predCount}
+use Rattle.record.specs.Registers.{Files, fileOf, withFile, Place, reg, pred, r, p, operandPlace, at, Inside, SameLengths, countOf}
 use Rattle.record.specs.Refusals.{Legal, instructionApart, destinationApart}
+use Rattle.record.specs.declared.File.{File}
+use Rattle.record.specs.declared.File.the-variants.{Words, Halves, Doubles, Preds}
 use Rattle.record.specs.declared.Cmp6.{Cmp6}
 use Rattle.record.specs.declared.LaneArith.{LaneArith}
 use Rattle.record.specs.declared.VideoType.{VideoType}
@@ -38,7 +40,7 @@ use Rattle.signs.specs.Lists.{Listed}
 use Rattle.signs.specs.Lists.Listed.{here, later}
 use Rattle.rules.specs.Numbers.{wordSize, laneSize, lanes, partAt, lowOf, bit}
 use Rattle.rules.specs.Execution.{arithmeticOf, vsetOf, comparisonOf, setOf, selpOf, slctOf, lanesOf, arithmeticLanesOf, maskAt, laneHolds, count, laneResult, sumZ, boolOf}
-use Rattle.rules.specs.Executing.{placesOf, operandOf, selectedWord, formC, formSources, conditionHolds, combinationSources, comparisonSources, scalarSources, kept, Write, write, writes, formD, destinationWrites, destinationPlaces, destinations, sources, guardSources, put, putAll, after, predHolds, combinedOf, testOf, Outcome, run, guardHolds, sizesFit, Admitted}
+use Rattle.rules.specs.Executing.{placesOf, operandOf, selectedWord, formC, formSources, conditionHolds, combinationSources, comparisonSources, scalarSources, kept, Write, write, writes, formD, destinationWrites, destinationPlaces, destinations, sources, guardSources, put, putAll, after, predHolds, combinedOf, testOf, Outcome, run, guardHolds, sizeFits, sizesFit, Admitted}
 use Rattle.laws.specs.OutcomeLaws.{executes, run-cases}
 use Rattle.laws.specs.PlaceLaws.{legal-parts, legal-inside}
 use Rattle.laws.specs.ExecutionLaws.{masked-gets-bit, unmasked-keeps-c, add-counts, masked-gets-low, unmasked-keeps-lane, add-sums}
@@ -46,6 +48,37 @@ use Rattle.laws.specs.ExecutionLaws.{masked-gets-bit, unmasked-keeps-c, 
 -- what holds of the files lent, and of those after the instruction, holds of what is left
 pub left-by : (x : Record) (f : Files) (P : Files → Type 0) → P f → P (after (x .instruction) f) → P (run x f .files)
 left-by x f P h k = run-cases x f (λ (o : Outcome). P (o .files)) h h h k h
+
+-- ==== one file and another
+
+-- two files are one, or what is put into the first leaves the second as it was
+data OneFile (j k : File) : Type 0 where
+  same : j ≡ k → OneFile j k
+  apart : ((l : List ℕ) (f : Files) → fileOf (withFile j l f) k ≡ fileOf f k) → OneFile j k
+
+one-file : (j k : File) → OneFile j k
+one-file Words Words = same refl
+one-file Words Halves = apart (λ l f. refl)
+one-file Words Doubles = apart (λ l f. refl)
+one-file Words Preds = apart (λ l f. refl)
+one-file Halves Words = apart (λ l f. refl)
+one-file Halves Halves = same refl
+one-file Halves Doubles = apart (λ l f. refl)
+one-file Halves Preds = apart (λ l f. refl)
+one-file Doubles Words = apart (λ l f. refl)
+one-file Doubles Halves = apart (λ l f. refl)
+one-file Doubles Doubles = same refl
+one-file Doubles Preds = apart (λ l f. refl)
+one-file Preds Words = apart (λ l f. refl)
+one-file Preds Halves = apart (λ l f. refl)
+one-file Preds Doubles = apart (λ l f. refl)
+one-file Preds Preds = same refl
+
+with-same : (k : File) (l : List ℕ) (f : Files) → fileOf (withFile k l f) k ≡ l
+with-same Words l f = refl
+with-same Halves l f = refl
+with-same Doubles l f = refl
+with-same Preds l f = refl
 
 -- ==== nothing else moves
 
@@ -71,15 +104,12 @@ other : (xs : List ℕ) (m n v : ℕ) → (m ≡ n → ⊥) → getD (set xs m v
 other xs m n v h = getD-set-other xs m n v 0 (λ e. h (sym e))
 
 pub put-other : (q s : Place) (v : ℕ) (f : Files) → (s ≡ q → ⊥) → at (put s v f) q ≡ at f q
-put-other (word n) (word m) v f h = other (f .words) m n v (λ e. h (ap word e))
-put-other (word n) (double m) v f h = refl
-put-other (word n) (pred m) v f h = refl
-put-other (double n) (word m) v f h = refl
-put-other (double n) (double m) v f h = other (f .doubles) m n v (λ e. h (ap double e))
-put-other (double n) (pred m) v f h = refl
-put-other (pred n) (word m) v f h = refl
-put-other (pred n) (double m) v f h = refl
-put-other (pred n) (pred m) v f h = other (f .preds) m n v (λ e. h (ap pred e))
+put-other (reg k n) (reg j m) v f h = go (one-file j k)
+  where
+    go : OneFile j k → at (put (reg j m) v f) (reg k n) ≡ at f (reg k n)
+    go (same e) =
+        rw e (ap (λ (l : List ℕ). getD l n 0) (with-same k (set (fileOf f k) m v) f) ∙ other (fileOf f k) m n v (λ d. h (ap₂ reg e d)))
+    go (apart a) = ap (λ (l : List ℕ). getD l n 0) (a (set (fileOf f j) m v) f)
 
 put-all-other : (q : Place) (ws : List Write) (f : Files) → (Listed q (placesOf ws) → ⊥) → at (putAll ws f) q ≡ at f q
 put-all-other q [] f h = refl
@@ -96,19 +126,18 @@ others-stay x f q h =
 -- no file becomes longer or shorter
 
 same-lengths : (f : Files) → SameLengths f f
-same-lengths f = record { words = refl; doubles = refl; preds = refl }
+same-lengths f k = refl
 
-put-lengths : (q : Place) (v : ℕ) (f : Files) → SameLengths f (put q v f)
-put-lengths (word n) v f = record { words = length-set (f .words) n v; doubles = refl; preds = refl }
-put-lengths (double n) v f = record { words = refl; doubles = length-set (f .doubles) n v; preds = refl }
-put-lengths (pred n) v f = record { words = refl; doubles = refl; preds = length-set (f .preds) n v }
+pub put-lengths : (q : Place) (v : ℕ) (f : Files) → SameLengths f (put q v f)
+put-lengths (reg j n) v f k = go (one-file j k)
+  where
+    go : OneFile j k → length (fileOf (put (reg j n) v f) k) ≡ length (fileOf f k)
+    go (same e) = rw e (ap length (with-same k (set (fileOf f k) n v) f) ∙ length-set (fileOf f k) n v)
+    go (apart a) = ap length (a (set (fileOf f j) n v) f)
 
 put-all-lengths : (ws : List Write) (f : Files) → SameLengths f (putAll ws f)
-put-all-lengths [] f = same-lengths f
-put-all-lengths (w ∷ ws) f =
-    let h = put-lengths (w .place) (w .value) f in
-    let k = put-all-lengths ws (put (w .place) (w .value) f) in
-    record { words = k .words ∙ h .words; doubles = k .doubles ∙ h .doubles; preds = k .preds ∙ h .preds }
+put-all-lengths [] f k = refl
+put-all-lengths (w ∷ ws) f k = put-all-lengths ws (put (w .place) (w .value) f) k ∙ put-lengths (w .place) (w .value) f k
 
 pub lengths-stay : (x : Record) (f : Files) → SameLengths f (run x f .files)
 unfolding after
@@ -121,10 +150,6 @@ abbrev pub Agree : Files → Files → List Place → Type 0
 Agree f g qs = (q : Place) → Listed q qs → at f q ≡ at g q
 
 module _ (f g : Files) where
-  operand-same : (o : Operand) → at f (operandPlace o) ≡ at g (operandPlace o) → operandOf (f .words) (f .doubles) o ≡ operandOf (g .words) (g .doubles) o
-  operand-same (Operand.Word w) e = e
-  operand-same (Operand.Double d) e = e
-
   form-same : (s : Form) → Agree f g (formSources s) → formC (f .words) s ≡ formC (g .words) s
   form-same (Plain d) h = refl
   form-same (Merge d sel c) h = h (r c) (here refl)
@@ -138,17 +163,17 @@ module _ (f g : Files) where
   combined-same Alone t h = refl
   combined-same (With op c) t h = ap (boolOf op t) (condition-same c (h (p (c .pred)) (here refl)))
 
-  test-same : (s : Comparison) → Agree f g (comparisonSources s) → testOf (f .words) (f .doubles) s ≡ testOf (g .words) (g .doubles) s
+  test-same : (s : Comparison) → Agree f g (comparisonSources s) → testOf f s ≡ testOf g s
   unfolding testOf
   test-same s h =
-      ap₂ (comparisonOf (s .cmp) (s .ftz) (s .stype)) (operand-same (s .a) (h (operandPlace (s .a)) (here refl)))
-      (operand-same (s .b) (h (operandPlace (s .b)) (later (here refl))))
+      ap₂ (comparisonOf (s .cmp) (s .ftz) (s .stype)) (h (operandPlace (s .a)) (here refl))
+      (h (operandPlace (s .b)) (later (here refl)))
 
   outcome-same : (s : Comparison) → Agree f g (comparisonSources s) → (turn : Bool → Bool)
-      → combinedOf (f .preds) (s .combination) (turn (testOf (f .words) (f .doubles) s)) ≡ combinedOf (g .preds) (s .combination) (turn (testOf (g .words) (g .doubles) s))
+      → combinedOf (f .preds) (s .combination) (turn (testOf f s)) ≡ combinedOf (g .preds) (s .combination) (turn (testOf g s))
   outcome-same s h turn =
       ap (λ (t : Bool). combinedOf (f .preds) (s .combination) (turn t)) (test-same s h)
-      ∙ combined-same (s .combination) (turn (testOf (g .words) (g .doubles) s)) (λ q e. h q (later (later e)))
+      ∙ combined-same (s .combination) (turn (testOf g s)) (λ q e. h q (later (later e)))
 
   lanes-same : (l : Lanes) (give : ℕ → ℕ → ℕ → ℕ) → Agree f g (r (l .a) ∷ r (l .b) ∷ r (l .c) ∷ [])
       → write (r (l .d)) (give (at f (r (l .a))) (at f (r (l .b))) (at f (r (l .c)))) ∷ []
@@ -162,11 +187,11 @@ module _ (f g : Files) where
       rw (h (r (selectedWord (s .a))) (here refl), h (r (selectedWord (s .b))) (later (here refl)), form-same (s .form) (λ q e. h q (later (later e))))
 
   choice-same : (s : Choice) (c : Place) (give : ℕ → ℕ → ℕ → ℕ) → Agree f g (operandPlace (s .a) ∷ operandPlace (s .b) ∷ c ∷ [])
-      → write (operandPlace (s .d)) (kept (s .d) (give (at f c) (operandOf (f .words) (f .doubles) (s .a)) (operandOf (f .words) (f .doubles) (s .b)))) ∷ []
-      ≡ write (operandPlace (s .d)) (kept (s .d) (give (at g c) (operandOf (g .words) (g .doubles) (s .a)) (operandOf (g .words) (g .doubles) (s .b)))) ∷ []
+      → write (operandPlace (s .d)) (kept (s .d) (give (at f c) (operandOf f (s .a)) (operandOf f (s .b)))) ∷ []
+      ≡ write (operandPlace (s .d)) (kept (s .d) (give (at g c) (operandOf g (s .a)) (operandOf g (s .b)))) ∷ []
   choice-same s c give h =
       rw
-      (h c (later (later (here refl))), operand-same (s .a) (h (operandPlace (s .a)) (here refl)), operand-same (s .b) (h (operandPlace (s .b)) (later (here refl))))
+      (h c (later (later (here refl))), h (operandPlace (s .a)) (here refl), h (operandPlace (s .b)) (later (here refl)))
 
   -- files that agree on the sources get the same writes
   pub reads-sources : (i : Instruction) → Agree f g (sources i) → writes i f ≡ writes i g
@@ -192,27 +217,27 @@ abbrev Distinct : List Place → Type 0
 Distinct [] = Unit {0}
 Distinct (q ∷ qs) = (Listed q qs → ⊥) × Distinct qs
 
--- files of 64, 32 and 16 places
-pub record Sized (f : Files) : Type 0 where
-  words : length (f .words) ≡ wordCount
-  doubles : length (f .doubles) ≡ doubleCount
-  preds : length (f .preds) ≡ predCount
+-- files of 64, 32, 32 and 16 places
+abbrev pub Sized : Files → Type 0
+Sized f = (k : File) → length (fileOf f k) ≡ countOf k
 
 pub sized : (f : Files) → sizesFit f ≡ true → Sized f
 unfolding sizesFit
-sized f e =
-    let k = simp and-eq-true-iff at e in
-    record { words = eqb-true _ _ (k .0 .0); doubles = eqb-true _ _ (k .0 .1); preds = eqb-true _ _ (k .1) }
+sized f e k = of k (simp and-eq-true-iff at e)
+  where
+    of : (k : File) → (((sizeFits f Words ≡ true) × (sizeFits f Halves ≡ true)) × (sizeFits f Doubles ≡ true)) × (sizeFits f Preds ≡ true)
+        → length (fileOf f k) ≡ countOf k
+    of Words h = eqb-true _ _ (h .0 .0 .0)
+    of Halves h = eqb-true _ _ (h .0 .0 .1)
+    of Doubles h = eqb-true _ _ (h .0 .1)
+    of Preds h = eqb-true _ _ (h .1)
 
 put-sized : (q : Place) (v : ℕ) (f : Files) → Sized f → Sized (put q v f)
-put-sized q v f s =
-    let k = put-lengths q v f in
-    record { words = k .words ∙ s .words; doubles = k .doubles ∙ s .doubles; preds = k .preds ∙ s .preds }
+put-sized q v f s k = put-lengths q v f k ∙ s k
 
 pub put-same : (q : Place) (v : ℕ) (f : Files) → Sized f → Inside q → at (put q v f) q ≡ v
-put-same (word n) v f s h = getD-set-same (f .words) n v 0 (rw (s .words) h)
-put-same (double n) v f s h = getD-set-same (f .doubles) n v 0 (rw (s .doubles) h)
-put-same (pred n) v f s h = getD-set-same (f .preds) n v 0 (rw (s .preds) h)
+put-same (reg k n) v f s h =
+    ap (λ (l : List ℕ). getD l n 0) (with-same k (set (fileOf f k) n v) f) ∙ getD-set-same (fileOf f k) n v 0 (rw (s k) h)
 
 put-all-holds : (ws : List Write) (f : Files) → Sized f → Distinct (placesOf ws) → ((q : Place) → Listed q (placesOf ws) → Inside q)
     → (w : Write) → Listed w ws → at (putAll ws f) (w .place) ≡ w .value
@@ -340,38 +365,38 @@ module _ (x : Record) (f : Files) (legal : Legal x) (admitted : Admitted f) (gua
 
   module _ (a : Pred) (s : Comparison) where
     -- BoolOp(t, c) alone
-    pub one-holds : x .instruction ≡ Setp (One a) s → at (run x f .files) (p a) ≡ bit (combinedOf (f .preds) (s .combination) (testOf (f .words) (f .doubles) s))
+    pub one-holds : x .instruction ≡ Setp (One a) s → at (run x f .files) (p a) ≡ bit (combinedOf (f .preds) (s .combination) (testOf f s))
     unfolding writes
-    one-holds is = holds-written (write (p a) (bit (combinedOf (f .preds) (s .combination) (testOf (f .words) (f .doubles) s)))) (rw is (here refl))
+    one-holds is = holds-written (write (p a) (bit (combinedOf (f .preds) (s .combination) (testOf f s)))) (rw is (here refl))
 
-    pub first-holds : x .instruction ≡ Setp (First a) s → at (run x f .files) (p a) ≡ bit (combinedOf (f .preds) (s .combination) (testOf (f .words) (f .doubles) s))
+    pub first-holds : x .instruction ≡ Setp (First a) s → at (run x f .files) (p a) ≡ bit (combinedOf (f .preds) (s .combination) (testOf f s))
     unfolding writes
-    first-holds is = holds-written (write (p a) (bit (combinedOf (f .preds) (s .combination) (testOf (f .words) (f .doubles) s)))) (rw is (here refl))
+    first-holds is = holds-written (write (p a) (bit (combinedOf (f .preds) (s .combination) (testOf f s)))) (rw is (here refl))
 
     -- BoolOp(not t, c) alone
     pub second-holds : x .instruction ≡ Setp (Second a) s
-        → at (run x f .files) (p a) ≡ bit (combinedOf (f .preds) (s .combination) (not (testOf (f .words) (f .doubles) s)))
+        → at (run x f .files) (p a) ≡ bit (combinedOf (f .preds) (s .combination) (not (testOf f s)))
     unfolding writes
     second-holds is =
-        holds-written (write (p a) (bit (combinedOf (f .preds) (s .combination) (not (testOf (f .words) (f .doubles) s))))) (rw is (here refl))
+        holds-written (write (p a) (bit (combinedOf (f .preds) (s .combination) (not (testOf f s))))) (rw is (here refl))
 
   -- ---- setp's two places, from the predicates before either is written
 
   module _ (a b : Pred) (s : Comparison) (is : x .instruction ≡ Setp (Pair a b) s) where
     -- BoolOp(t, c)
-    pub first-place : at (run x f .files) (p a) ≡ bit (combinedOf (f .preds) (s .combination) (testOf (f .words) (f .doubles) s))
+    pub first-place : at (run x f .files) (p a) ≡ bit (combinedOf (f .preds) (s .combination) (testOf f s))
     unfolding writes
-    first-place = holds-written (write (p a) (bit (combinedOf (f .preds) (s .combination) (testOf (f .words) (f .doubles) s)))) (rw is (here refl))
+    first-place = holds-written (write (p a) (bit (combinedOf (f .preds) (s .combination) (testOf f s)))) (rw is (here refl))
 
     -- BoolOp(not t, c), also where c is the first place
-    pub second-place : at (run x f .files) (p b) ≡ bit (combinedOf (f .preds) (s .combination) (not (testOf (f .words) (f .doubles) s)))
+    pub second-place : at (run x f .files) (p b) ≡ bit (combinedOf (f .preds) (s .combination) (not (testOf f s)))
     unfolding writes
     second-place =
-        holds-written (write (p b) (bit (combinedOf (f .preds) (s .combination) (not (testOf (f .words) (f .doubles) s))))) (rw is (later (here refl)))
+        holds-written (write (p b) (bit (combinedOf (f .preds) (s .combination) (not (testOf f s))))) (rw is (later (here refl)))
 
     -- c is read before a predicate is written: where c is the first place, the second has BoolOp(not t, c) of c before
     pub c-read-first : (op : BoolOp) (inverted : Bool) → s .combination ≡ With op (record { inverted = inverted; pred = a })
         → at (run x f .files) (p b)
-        ≡ bit (boolOf op (not (testOf (f .words) (f .doubles) s)) (cond inverted (not (predHolds (f .preds) a)) (predHolds (f .preds) a)))
+        ≡ bit (boolOf op (not (testOf f s)) (cond inverted (not (predHolds (f .preds) a)) (predHolds (f .preds) a)))
     unfolding combinedOf
-    c-read-first op inverted e = second-place ∙ ap (λ (c : Combination). bit (combinedOf (f .preds) c (not (testOf (f .words) (f .doubles) s)))) e
+    c-read-first op inverted e = second-place ∙ ap (λ (c : Combination). bit (combinedOf (f .preds) c (not (testOf f s)))) e

@@ -8,7 +8,8 @@ use lib.Dec.{eqb, ltb}
 use borrow.Author.Tests.{eqb-true, ne-eqb}
 use Rattle.signs.specs.Bytes.{lineFeed, isBlank, All}
 use Rattle.signs.specs.Bytes.All.{none, more}
-use Rattle.record.specs.Registers.{Place, word, double, pred}
+use Rattle.record.specs.declared.File.the-variants.{Words, Halves, Doubles, Preds}
+use Rattle.record.specs.Registers.{Place, reg}
 use Rattle.rules.specs.Shape.{Name, digit, numberText, registerText, dotted, Spot, at, nothing, spotText, OperandTree, inverted, pair, bare, part, operandText}
 use Rattle.rules.specs.Grammar.{GuardTree, unguarded, guarded, guardTreeText, Divided, dividedText, LineTree, lineText, GoodName, GoodNames, GoodOperand, GoodGuard, GoodOthers, Good, Shaped}
 use Rattle.signs.specs.Lists.{Listed}
@@ -59,9 +60,10 @@ number n = go (ltb n 10) (ltb n 100)
     go false false = more (digit-byte (n / 100)) (more (digit-byte (n / 10)) (more (digit-byte n) none))
 
 register : (q : Place) → NoFeed (registerText q)
-register (word n) = more refl (more refl (number n))
-register (double n) = more refl (more refl (more refl (number n)))
-register (pred n) = more refl (more refl (number n))
+register (reg Words n) = more refl (more refl (number n))
+register (reg Halves n) = more refl (more refl (more refl (number n)))
+register (reg Doubles n) = more refl (more refl (more refl (number n)))
+register (reg Preds n) = more refl (more refl (number n))
 
 spot : (s : Spot) → NoFeed (spotText s)
 spot (at q) = register q

@@ -12,7 +12,7 @@ use Rattle.signs.specs.Bytes.{isBlank, isNameByte, Some}
 use Rattle.base.specs.Values.{every, each, every-append}
 use Rattle.base.specs.PackLaws.{all-of}
 use Rattle.signs.specs.Bytes
-use Rattle.record.specs.Registers.{wordInFile, predInFile, Place, word, operandPlace, r, p}
+use Rattle.record.specs.Registers.{isInside, Place, reg, word, operandPlace, r, p}
 use Rattle.record.specs.Operands.{fullMask, defaultA, defaultB, instructionOperandsFit}
 use Rattle.record.specs.Refusals.{isLegal, Legal, conditionInRange, guardInRange, selectedInRange, formInRange, scalarInRange, lanesInRange, operandInRange, combinationInRange, comparisonInRange, destinationInRange, choiceInRange, instructionInRange}
 use Rattle.record.specs.declared.VideoType.{VideoType}
@@ -26,6 +26,7 @@ use Rattle.record.specs.declared.BoolOp.{BoolOp}
 use Rattle.record.specs.declared.Op2.{Op2}
 use Rattle.record.specs.declared.Arith.{Arith}
 use Rattle.record.specs.declared.LaneArith.{LaneArith}
+use Rattle.record.specs.declared.File.the-variants.{Words, Halves, Doubles, Preds}
 use Rattle.record.specs.declared.Word.{Word}
 use Rattle.record.specs.declared.Pred.{Pred}
 use Rattle.record.specs.declared.Condition.{Condition}
@@ -238,59 +239,55 @@ names-named (Slct (SlctType.F32 ftz) s c) = simp namings
 -- ==== registers and operands
 
 -- a file has at most 64 registers, so that three digits hold any number of one
-word-good : (w : Word) → wordInFile w ≡ true → GoodPlace (r w)
-word-good w h = omega (arith, ltb-true)
-
-pred-good : (q : Pred) → predInFile q ≡ true → GoodPlace (p q)
-pred-good q h = omega (arith, ltb-true)
-
-operand-good : (o : Operand) → operandInRange o ≡ true → GoodOperand (bare (operandPlace o))
-operand-good (Operand.Word w) h = word-good w h
-operand-good (Operand.Double d) h = omega (arith, ltb-true)
+place-good : (q : Place) → isInside q ≡ true → GoodPlace q
+place-good (reg Words n) h = omega (arith, ltb-true)
+place-good (reg Halves n) h = omega (arith, ltb-true)
+place-good (reg Doubles n) h = omega (arith, ltb-true)
+place-good (reg Preds n) h = omega (arith, ltb-true)
 
 one-blank : Some isBlank (bytes " ")
 one-blank = record { all = Bytes.more refl Bytes.none; some = lit< tt }
 
 guard-good : (g : Guard) → guardInRange g ≡ true → GoodGuard (standardGuard g)
 guard-good Always h = tt
-guard-good (When c) h = (pred-good (c .pred) h, one-blank)
+guard-good (When c) h = (place-good (p (c .pred)) h, one-blank)
 
 either-good : (t : Bool) (o q : OperandTree) → GoodOperand o → GoodOperand q → GoodOperand (cond t o q)
 either-good true o q h k = h
 either-good false o q h k = k
 
 condition-good : (c : Condition) → conditionInRange c ≡ true → GoodOperand (conditionTree c)
-condition-good c h = either-good (c .inverted) _ _ (pred-good (c .pred) h) (pred-good (c .pred) h)
+condition-good c h = either-good (c .inverted) _ _ (place-good (p (c .pred)) h) (place-good (p (c .pred)) h)
 
 combination-good : (c : Combination) → combinationInRange c ≡ true → GoodOperands (combinationLast c)
 combination-good Alone h = Grammar.none
 combination-good (With op c) h = Grammar.more (condition-good c h) Grammar.none
 
 selected-good : (a : Selected) → selectedInRange a ≡ true → GoodOperand (selectedTree a)
-selected-good (Whole w) h = word-good w h
-selected-good (Part w sel) h = (word-good w h, named (selector-named sel))
+selected-good (Whole w) h = place-good (r w) h
+selected-good (Part w sel) h = (place-good (r w) h, named (selector-named sel))
 
 form-good : (f : Form) → formInRange f ≡ true → GoodOperand (formTree f)
-form-good (Plain d) h = word-good d h
-form-good (Merge d sel c) h = let k = simp and-eq-true-iff at h in (word-good d (k .0), named (selector-named sel))
-form-good (Combine op d c) h = let k = simp and-eq-true-iff at h in word-good d (k .0)
+form-good (Plain d) h = place-good (r d) h
+form-good (Merge d sel c) h = let k = simp and-eq-true-iff at h in (place-good (r d) (k .0), named (selector-named sel))
+form-good (Combine op d c) h = let k = simp and-eq-true-iff at h in place-good (r d) (k .0)
 
 form-last-good : (f : Form) → formInRange f ≡ true → GoodOperands (formLast f)
 form-last-good (Plain d) h = Grammar.none
-form-last-good (Merge d sel c) h = let k = simp and-eq-true-iff at h in Grammar.more (word-good c (k .1)) Grammar.none
-form-last-good (Combine op d c) h = let k = simp and-eq-true-iff at h in Grammar.more (word-good c (k .1)) Grammar.none
+form-last-good (Merge d sel c) h = let k = simp and-eq-true-iff at h in Grammar.more (place-good (r c) (k .1)) Grammar.none
+form-last-good (Combine op d c) h = let k = simp and-eq-true-iff at h in Grammar.more (place-good (r c) (k .1)) Grammar.none
 
 destination-good : (d : Destination) → destinationInRange d ≡ true → GoodOperand (destinationTree d)
-destination-good (One a) h = pred-good a h
-destination-good (Pair a b) h = let k = simp and-eq-true-iff at h in (pred-good a (k .0), pred-good b (k .1))
-destination-good (First a) h = (pred-good a h, tt)
-destination-good (Second b) h = (tt, pred-good b h)
+destination-good (One a) h = place-good (p a) h
+destination-good (Pair a b) h = let k = simp and-eq-true-iff at h in (place-good (p a) (k .0), place-good (p b) (k .1))
+destination-good (First a) h = (place-good (p a) h, tt)
+destination-good (Second b) h = (tt, place-good (p b) h)
 
-mask-good : (w : LaneWidth) (d : Word) (m : Mask) → wordInFile d ≡ true → GoodOperand (maskTree w d m)
-mask-good w d m h = either-good (sameMask m (fullMask w)) _ _ (word-good d h) (word-good d h, named (mask-named w m))
+mask-good : (w : LaneWidth) (d : Word) (m : Mask) → isInside (r d) ≡ true → GoodOperand (maskTree w d m)
+mask-good w d m h = either-good (sameMask m (fullMask w)) _ _ (place-good (r d) h) (place-good (r d) h, named (mask-named w m))
 
-digits-good : (w : LaneWidth) (default : Digits) (a : Word) (s : Digits) → wordInFile a ≡ true → GoodOperand (digitsTree w default a s)
-digits-good w default a s h = either-good (sameDigits s default) _ _ (word-good a h) (word-good a h, named (digits-named w s))
+digits-good : (w : LaneWidth) (default : Digits) (a : Word) (s : Digits) → isInside (r a) ≡ true → GoodOperand (digitsTree w default a s)
+digits-good w default a s h = either-good (sameDigits s default) _ _ (place-good (r a) h) (place-good (r a) h, named (digits-named w s))
 
 scalar-good : (s : Scalar) → scalarInRange s ≡ true → GoodOperands (scalarTrees s)
 scalar-good s h =
@@ -304,18 +301,18 @@ lanes-good l h =
     let w = l .width in
     Grammar.more (mask-good w (l .d) (l .mask) (k .0 .0 .0))
     (Grammar.more (digits-good w (defaultA w) (l .a) (l .asel) (k .0 .0 .1))
-    (Grammar.more (digits-good w (defaultB w) (l .b) (l .bsel) (k .0 .1)) (Grammar.more (word-good (l .c) (k .1)) Grammar.none)))
+    (Grammar.more (digits-good w (defaultB w) (l .b) (l .bsel) (k .0 .1)) (Grammar.more (place-good (r (l .c)) (k .1)) Grammar.none)))
 
 sources-good : (s : Comparison) → comparisonInRange s ≡ true → GoodOperands (sourceTrees s)
 sources-good s h =
     let k = simp and-eq-true-iff at h in
-    Grammar.more (operand-good (s .a) (k .0 .0)) (Grammar.more (operand-good (s .b) (k .0 .1)) (combination-good (s .combination) (k .1)))
+    Grammar.more (place-good (operandPlace (s .a)) (k .0 .0)) (Grammar.more (place-good (operandPlace (s .b)) (k .0 .1)) (combination-good (s .combination) (k .1)))
 
 choice-good : (s : Choice) (c : Place) → choiceInRange s ≡ true → GoodPlace c → GoodOperands (choiceTrees s c)
 choice-good s c h last =
     let k = simp and-eq-true-iff at h in
-    Grammar.more (operand-good (s .d) (k .0 .0))
-    (Grammar.more (operand-good (s .a) (k .0 .1)) (Grammar.more (operand-good (s .b) (k .1)) (Grammar.more last Grammar.none)))
+    Grammar.more (place-good (operandPlace (s .d)) (k .0 .0))
+    (Grammar.more (place-good (operandPlace (s .a)) (k .0 .1)) (Grammar.more (place-good (operandPlace (s .b)) (k .1)) (Grammar.more last Grammar.none)))
 
 operands-good : (i : Instruction) → instructionInRange i ≡ true → GoodOperands (operandTrees i)
 operands-good (Arithmetic op dtype sat s) h = scalar-good s h
@@ -323,13 +320,13 @@ operands-good (Vset cmp s) h = scalar-good s h
 operands-good (VsetLanes cmp l) h = lanes-good l h
 operands-good (ArithmeticLanes op dtype sat l) h = lanes-good l h
 operands-good (Set dtype d s) h =
-    let k = (and-eq-true-iff (wordInFile d) (comparisonInRange s)) .0 h in
-    Grammar.more (word-good d (k .0)) (sources-good s (k .1))
+    let k = (and-eq-true-iff (isInside (r d)) (comparisonInRange s)) .0 h in
+    Grammar.more (place-good (r d) (k .0)) (sources-good s (k .1))
 operands-good (Setp d s) h =
     let k = (and-eq-true-iff (destinationInRange d) (comparisonInRange s)) .0 h in
     Grammar.more (destination-good d (k .0)) (sources-good s (k .1))
-operands-good (Selp s c) h = let k = (and-eq-true-iff (choiceInRange s) (predInFile c)) .0 h in choice-good s (p c) (k .0) (pred-good c (k .1))
-operands-good (Slct ctype s c) h = let k = (and-eq-true-iff (choiceInRange s) (wordInFile c)) .0 h in choice-good s (r c) (k .0) (word-good c (k .1))
+operands-good (Selp s c) h = let k = (and-eq-true-iff (choiceInRange s) (isInside (p c))) .0 h in choice-good s (p c) (k .0) (place-good (p c) (k .1))
+operands-good (Slct ctype s c) h = let k = (and-eq-true-iff (choiceInRange s) (isInside (r c))) .0 h in choice-good s (r c) (k .0) (place-good (r c) (k .1))
 
 -- ==== the line
 

@@ -9,7 +9,7 @@ use lib.IntN.{ℤ, pos}
 use borrow.Author.Tests.{ltb-true}
 use Rattle.signs.specs.Lists.{Listed}
 use Rattle.signs.specs.Lists.Listed.{here}
-use Rattle.record.specs.Registers.{Files, files, r, numberOf, at, Inside, wordInFile, wordCount}
+use Rattle.record.specs.Registers.{Files, files, r, numberOf, at, Inside, isInside, wordCount}
 use Rattle.record.specs.Operands.{lanesFit, maskFits, digitsFit, instructionOperandsFit}
 use Rattle.record.specs.Refusals.{isLegal, Legal, guardInRange, selectedInRange, formInRange, scalarInRange, lanesInRange, instructionInRange}
 use Rattle.record.specs.declared.Word.{Word}
@@ -66,7 +66,7 @@ unfolding isLegal
 scalar-fits g (compares cmp) s e h = rw (e, h)
 scalar-fits g (computes op dtype sat) s e h = rw (e, h)
 
-digit-range : (l : Lanes) (k : ℕ) → wordInFile (l .a) ≡ true → wordInFile (l .b) ≡ true → selectedInRange (digitOperand l k) ≡ true
+digit-range : (l : Lanes) (k : ℕ) → isInside (r (l .a)) ≡ true → isInside (r (l .b)) ≡ true → selectedInRange (digitOperand l k) ≡ true
 digit-range l k e h = go (ltb k (lanes (l .width))) refl
   where
     go : (t : Bool) → ltb k (lanes (l .width)) ≡ t → selectedInRange (digitOperand l k) ≡ true
@@ -86,7 +86,7 @@ module _ (l : Lanes) (e : Word) where
   form-c ws true i c = refl
   form-c ws false i c = refl
 
-  form-range : (add : Bool) (i : ℕ) (c : Word) → wordInFile e ≡ true → wordInFile c ≡ true → formInRange (formBy add i c) ≡ true
+  form-range : (add : Bool) (i : ℕ) (c : Word) → isInside (r e) ≡ true → isInside (r c) ≡ true → formInRange (formBy add i c) ≡ true
   form-range true i c h k = rw (h, k)
   form-range false i c h k = rw (h, k)
 
@@ -104,10 +104,10 @@ module _ (x : Record) (legal : Legal x) (o : Operation) (l : Lanes) (is : x .ins
   pub guard-range : guardInRange (x .guard) ≡ true
   guard-range = let k = simp and-eq-true-iff at (legal-parts x legal .2) in k .0
 
-  pub registers-range : (wordInFile (l .d) ≡ true) × (wordInFile (l .a) ≡ true) × (wordInFile (l .b) ≡ true) × (wordInFile (l .c) ≡ true)
+  pub registers-range : (isInside (r (l .d)) ≡ true) × (isInside (r (l .a)) ≡ true) × (isInside (r (l .b)) ≡ true) × (isInside (r (l .c)) ≡ true)
   registers-range =
       let e : guardInRange (x .guard) && lanesInRange l ≡ true = ap (_&&_ (guardInRange (x .guard))) (sym (simd-range o l) ∙ ap instructionInRange (sym is)) ∙ legal-parts x legal .2 in
-      split (guardInRange (x .guard)) (wordInFile (l .d)) (wordInFile (l .a)) (wordInFile (l .b)) (wordInFile (l .c)) e
+      split (guardInRange (x .guard)) (isInside (r (l .d))) (isInside (r (l .a))) (isInside (r (l .b))) (isInside (r (l .c))) e
     where
       split : (g a b c d : Bool) → g && (a && b && c && d) ≡ true → (a ≡ true) × (b ≡ true) × (c ≡ true) × (d ≡ true)
       split g a b c d e = let k = simp and-eq-true-iff at e in (k .1 .0 .0 .0, k .1 .0 .0 .1, k .1 .0 .1, k .1 .1)
@@ -122,7 +122,7 @@ module _ (x : Record) (legal : Legal x) (o : Operation) (l : Lanes) (is : x .ins
   pub lines-scalar : (e : Word) → Inside (r e) → (y : Record) → Listed y (takenApart (x .guard) o l e) → ScalarLine (x .guard) y
   lines-scalar e inside y m = lanes-each (laneLines (x .guard) o l e) l e (ScalarLine (x .guard)) (word-range e inside) each (registers-range .3) y m
     where
-      each : (i : ℕ) (c : Word) → wordInFile c ≡ true → (y : Record) → Listed y (laneLines (x .guard) o l e i c) → ScalarLine (x .guard) y
+      each : (i : ℕ) (c : Word) → isInside (r c) ≡ true → (y : Record) → Listed y (laneLines (x .guard) o l e i c) → ScalarLine (x .guard) y
       each i c k y (here q) =
           rw q (record { legal = lane-legal i (laneForm l e i c) (form-range l e (l .add) i c (word-range e inside) k); guarded = refl; o = o; s = laneScalar l i (laneForm l e i c); scalar = refl })
 
@@ -220,7 +220,7 @@ module _ (x : Record) (legal : Legal x) (o : Operation) (l : Lanes) (is : x .ins
                 rw n (at-width ws l (fits .1) (fits .2) i h form o)
 
         -- one line, on files g with a guard that holds
-        line-run : (g : Files) → Admitted g → guardHolds (g .preds) (x .guard) ≡ true → (i : ℕ) → i < lanes (l .width) → (c : Word) → wordInFile c ≡ true
+        line-run : (g : Files) → Admitted g → guardHolds (g .preds) (x .guard) ≡ true → (i : ℕ) → i < lanes (l .width) → (c : Word) → isInside (r c) ≡ true
             → run (laneRecord (x .guard) o l i (laneForm l e i c)) g .files
             ≡ put (r e) (stepOf l (isSignedOf o) i (at g (r c)) (laneZ o l (at g (r (l .a))) (at g (r (l .b))) i)) g
         unfolding after

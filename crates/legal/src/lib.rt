@@ -7,6 +7,7 @@ use record::Destination;
 use record::Double;
 use record::Form;
 use record::Guard;
+use record::Half;
 use record::Instruction;
 use record::Lanes;
 use record::Operand;
@@ -16,25 +17,32 @@ use record::Scalar;
 use record::Selected;
 use record::Word;
 ghost use mathlib.Core.Path.{_≡_};
-ghost use Rattle.record.specs.Registers.{wordInFile, doubleInFile, predInFile};
+ghost use Rattle.record.specs.declared.File.the-variants.{Words, Halves, Doubles, Preds};
+ghost use Rattle.record.specs.Registers.{reg, isInside};
 ghost use Rattle.record.specs.Refusals.{conditionInRange, guardInRange, selectedInRange, formInRange, scalarInRange, lanesInRange, operandInRange, combinationInRange, comparisonInRange, destinationInRange, choiceInRange, instructionInRange, numbersInRange, destinationApart, instructionApart, pairApart, isLegal};
 
 // ---- registers
 
 fn word_in_file(w: Word) -> bool
-    ensures { λ r. ⌜ r ≡ wordInFile w ⌝ }
+    ensures { λ r. ⌜ r ≡ isInside (reg Words (w .0)) ⌝ }
 {
     w.0 < record::WORDS
 }
 
+fn half_in_file(h: Half) -> bool
+    ensures { λ r. ⌜ r ≡ isInside (reg Halves (h .0)) ⌝ }
+{
+    h.0 < record::HALVES
+}
+
 fn double_in_file(d: Double) -> bool
-    ensures { λ r. ⌜ r ≡ doubleInFile d ⌝ }
+    ensures { λ r. ⌜ r ≡ isInside (reg Doubles (d .0)) ⌝ }
 {
     d.0 < record::DOUBLES
 }
 
 fn pred_in_file(p: Pred) -> bool
-    ensures { λ r. ⌜ r ≡ predInFile p ⌝ }
+    ensures { λ r. ⌜ r ≡ isInside (reg Preds (p .0)) ⌝ }
 {
     p.0 < record::PREDS
 }
@@ -95,6 +103,7 @@ fn operand_in_range(o: Operand) -> bool
 {
     match o {
         Operand::Word(w) => word_in_file(w),
+        Operand::Half(h) => half_in_file(h),
         Operand::Double(d) => double_in_file(d),
     }
 }

@@ -25,17 +25,18 @@ fn say_first(s: &[u8], n: usize) -> bool {
 fn say_lines(
     listing: &[u8],
     words: &mut [u32],
+    halves: &mut [u16],
     doubles: &mut [u64],
     preds: &mut [u8],
     out: &mut [u8],
 ) -> bool
     requires { ⌜ lineRoom ≤ length (now out) ⌝ }
-    ensures { λ r. ⌜ (r ≡ true → Told (now (listing .entry)) (files (now (words .entry)) (now (doubles .entry)) (now (preds .entry))) (files (now (words .exit)) (now (doubles .exit)) (now (preds .exit)))) ⌝ }
+    ensures { λ r. ⌜ (r ≡ true → Told (now (listing .entry)) (files (now (words .entry)) (now (halves .entry)) (now (doubles .entry)) (now (preds .entry))) (files (now (words .exit)) (now (halves .exit)) (now (doubles .exit)) (now (preds .exit)))) ⌝ }
 {
     let mut at = 0;
     let mut number = 1;
     while at < listing.len() {
-        let p = report::some_lines(listing, at, number, words, doubles, preds, out);
+        let p = report::some_lines(listing, at, number, words, halves, doubles, preds, out);
         if !say_first(out, p.len) {
             return false;
         }
@@ -45,20 +46,28 @@ fn say_lines(
     true
 }
 
-fn say_registers(words: &[u32], doubles: &[u64], preds: &[u8], out: &mut [u8]) {
+fn say_registers(words: &[u32], halves: &[u16], doubles: &[u64], preds: &[u8], out: &mut [u8]) {
     // The caller's buffer is longer than all registers' texts, so there is room.
-    if let Printed::Length(n) = changes::registers(words, doubles, preds, out) {
+    if let Printed::Length(n) = changes::registers(words, halves, doubles, preds, out) {
         say_first(out, n);
     }
 }
 
 fn say_listing(listing: &[u8]) {
     let mut words = changes::start_words();
+    let mut halves = changes::start_halves();
     let mut doubles = changes::start_doubles();
     let mut preds = changes::start_preds();
     let mut out = [0u8; 65536];
-    if say_lines(listing, &mut words, &mut doubles, &mut preds, &mut out) {
-        say_registers(&words, &doubles, &preds, &mut out);
+    if say_lines(
+        listing,
+        &mut words,
+        &mut halves,
+        &mut doubles,
+        &mut preds,
+        &mut out,
+    ) {
+        say_registers(&words, &halves, &doubles, &preds, &mut out);
     }
 }
 

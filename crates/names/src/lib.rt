@@ -73,13 +73,19 @@ pub const SLCT: u64 = 244905587;
 
 // ---- types
 
+pub const B16: u64 = 891106;
+
 pub const B32: u64 = 825826;
 
 pub const B64: u64 = 858978;
 
+pub const U16: u64 = 891125;
+
 pub const U32: u64 = 825845;
 
 pub const U64: u64 = 858997;
+
+pub const S16: u64 = 891123;
 
 pub const S32: u64 = 825843;
 
@@ -184,10 +190,13 @@ pub fn type_number(t: DataType) -> u64
     ensures { λ r. ⌜ NumberSpells 3 r (typeName t) ⌝ }
 {
     match t {
+        DataType::B16 => B16,
         DataType::B32 => B32,
         DataType::B64 => B64,
+        DataType::U16 => U16,
         DataType::U32 => U32,
         DataType::U64 => U64,
+        DataType::S16 => S16,
         DataType::S32 => S32,
         DataType::S64 => S64,
         DataType::F32 => F32,
@@ -458,10 +467,13 @@ pub fn type_of(x: u64) -> TypeName
     ensures { λ r. ⌜ Means TypeBack x r ⌝ }
 {
     match x {
+        B16 => TypeName::Is(DataType::B16),
         B32 => TypeName::Is(DataType::B32),
         B64 => TypeName::Is(DataType::B64),
+        U16 => TypeName::Is(DataType::U16),
         U32 => TypeName::Is(DataType::U32),
         U64 => TypeName::Is(DataType::U64),
+        S16 => TypeName::Is(DataType::S16),
         S32 => TypeName::Is(DataType::S32),
         S64 => TypeName::Is(DataType::S64),
         F32 => TypeName::Is(DataType::F32),

@@ -25,6 +25,7 @@ use Rattle.fillplace.specs.Tries.{operandPlaceOf}
 
 abbrev pub predIs : Place → Bool
 predIs (Place.Word w) = false
+predIs (Place.Half h) = false
 predIs (Place.Double d) = false
 predIs (Place.Pred q) = true
 

@@ -8,7 +8,8 @@ use lib.ListN.{length, drop}
 use borrow.Author.Tests.{eqb-true, not-false}
 use Rattle.signs.specs.Bytes.{isBlank}
 use Rattle.signs.specs.Text.{bytes}
-use Rattle.record.specs.Registers.{Place, word, double, pred, p}
+use Rattle.record.specs.declared.File.the-variants.{Words, Halves, Doubles, Preds}
+use Rattle.record.specs.Registers.{Place, reg, pred, p}
 use Rattle.record.specs.Refusals.{numbersInRange, pairApart, instructionApart}
 use Rattle.record.specs.declared.Guard.{Guard}
 use Rattle.record.specs.declared.Guard.the-variants.{Always, When}
@@ -61,9 +62,10 @@ guard-none t e g s = off (sym (guard-good t g s) ∙ e)
 
 guard-some : (t : GuardTree) → guardGood (seenGuard t) ≡ true → (g : Guard) × GuardSpells t g
 guard-some unguarded e = (Always, tt)
-guard-some (guarded n (word k) b) e = off (sym e)
-guard-some (guarded n (double k) b) e = off (sym e)
-guard-some (guarded n (pred k) b) e = (When (record { inverted = n; pred = record { 0 = k } }), (refl, refl))
+guard-some (guarded n (reg Words k) b) e = off (sym e)
+guard-some (guarded n (reg Halves k) b) e = off (sym e)
+guard-some (guarded n (reg Doubles k) b) e = off (sym e)
+guard-some (guarded n (reg Preds k) b) e = (When (record { inverted = n; pred = record { 0 = k } }), (refl, refl))
 
 pub good-operands : (ds : List Divided) → GoodOthers ds → GoodOperands (map (λ (d : Divided). d .operand) ds)
 good-operands ds no-other = no-operand

@@ -20,6 +20,7 @@ fn is_pred(p: Place) -> bool
 {
     match p {
         Place::Word(_) => false,
+        Place::Half(_) => false,
         Place::Double(_) => false,
         Place::Pred(_) => true,
     }

@@ -14,7 +14,8 @@ use Rattle.record.specs.declared.Guard.{Guard}
 use Rattle.record.specs.declared.Guard.the-variants.{Always, When}
 use Rattle.record.specs.declared.Instruction.{Instruction}
 use Rattle.record.specs.declared.Record.{Record}
-use Rattle.record.specs.Registers.{word, double, pred}
+use Rattle.record.specs.declared.File.the-variants.{Words, Halves, Doubles, Preds}
+use Rattle.record.specs.Registers.{reg}
 use Rattle.rules.specs.Shape.{Name}
 use Rattle.rules.specs.Names.{headNames}
 use Rattle.rules.specs.Grammar.GoodNames.{more as name-more}
@@ -70,9 +71,10 @@ guard-found g h s = (guard-good g h s, guard-is g h s)
 
 guard-spells : (g : GuardTree) → guardGood (seenGuard g) ≡ true → GuardSpells g (guardIn (seenGuard g))
 guard-spells unguarded e = tt
-guard-spells (guarded n (word k) b) e = off e refl
-guard-spells (guarded n (double k) b) e = off e refl
-guard-spells (guarded n (pred k) b) e = (refl, refl)
+guard-spells (guarded n (reg Words k) b) e = off e refl
+guard-spells (guarded n (reg Halves k) b) e = off e refl
+guard-spells (guarded n (reg Doubles k) b) e = off e refl
+guard-spells (guarded n (reg Preds k) b) e = (refl, refl)
 
 -- ==== a tree and the records that it spells
 

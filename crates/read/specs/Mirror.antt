@@ -67,6 +67,7 @@ filledIn (Filled.Wrong k) = noInstruction
 
 abbrev pub predIn : Place → Pred
 predIn (Place.Word w) = noPred
+predIn (Place.Half h) = noPred
 predIn (Place.Double d) = noPred
 predIn (Place.Pred q) = q
 

@@ -44,6 +44,7 @@ fn pred_in(p: Place) -> Pred
 {
     match p {
         Place::Word(_) => Pred(0),
+        Place::Half(_) => Pred(0),
         Place::Double(_) => Pred(0),
         Place::Pred(q) => q,
     }

@@ -1,7 +1,7 @@
 -- Document 01, "Modifiers, in this order only", of the record: what its type leaves open of each row of the table.
 use mathlib.Core.Bool.{Bool, true, false, not, _&&_, _||_}
 use Rattle.record.specs.declared.DataType.{DataType}
-use Rattle.record.specs.declared.DataType.the-variants.{B32, B64, U32, U64, S32, S64, F32, F64}
+use Rattle.record.specs.declared.DataType.the-variants.{B16, B32, B64, U16, U32, U64, S16, S32, S64, F32, F64}
 use Rattle.record.specs.declared.Kind.{Kind}
 use Rattle.record.specs.declared.Kind.the-variants.{B, U, S, F}
 use Rattle.record.specs.declared.Cmp6.the-variants.{Eq, Ne, Lt, Le, Gt, Ge}
@@ -12,12 +12,15 @@ use Rattle.record.specs.declared.Instruction.{Instruction}
 use Rattle.record.specs.declared.Instruction.the-variants.{Arithmetic, Vset, VsetLanes, ArithmeticLanes, Set, Setp, Selp, Slct}
 use Rattle.record.specs.declared.Record.{Record}
 
--- the letter of a type
+-- the letter of a type; T-06: the types b16, u16, s16 wherever 01 lists b32, u32, s32 as stype, type or slct's dtype
 abbrev pub kindOf : DataType → Kind
+kindOf B16 = B
 kindOf B32 = B
 kindOf B64 = B
+kindOf U16 = U
 kindOf U32 = U
 kindOf U64 = U
+kindOf S16 = S
 kindOf S32 = S
 kindOf S64 = S
 kindOf F32 = F
@@ -60,10 +63,13 @@ cmpFits U c = isSix c || isUnsignedOp c
 cmpFits F c = isSix c || isFloatOp c
 
 abbrev pub isF32 : DataType → Bool
+isF32 B16 = false
 isF32 B32 = false
 isF32 B64 = false
+isF32 U16 = false
 isF32 U32 = false
 isF32 U64 = false
+isF32 S16 = false
 isF32 S32 = false
 isF32 S64 = false
 isF32 F32 = true

@@ -3,9 +3,9 @@ use Prim.Native.Nat.{ℕ}
 use mathlib.Core.Bool.{Bool, true, false, not, _&&_, _||_, cond}
 use lib.Dec.{leb, eqb}
 use Rattle.record.specs.declared.DataType.{DataType}
-use Rattle.record.specs.declared.DataType.the-variants.{B32, B64, U32, U64, S32, S64, F32, F64}
+use Rattle.record.specs.declared.DataType.the-variants.{B16, B32, B64, U16, U32, U64, S16, S32, S64, F32, F64}
 use Rattle.record.specs.declared.Operand.{Operand}
-use Rattle.record.specs.declared.Operand.the-variants.{Word, Double}
+use Rattle.record.specs.declared.Operand.the-variants as operand
 use Rattle.record.specs.declared.LaneWidth.{LaneWidth}
 use Rattle.record.specs.declared.LaneWidth.the-variants.{Half, Byte}
 use Rattle.record.specs.declared.Mask.{Mask}
@@ -16,7 +16,7 @@ use Rattle.record.specs.declared.Choice.{Choice}
 use Rattle.record.specs.declared.Instruction.{Instruction}
 use Rattle.record.specs.declared.Instruction.the-variants.{Arithmetic, Vset, VsetLanes, ArithmeticLanes, Set, Setp, Selp, Slct}
 use Rattle.record.specs.declared.Record.{Record}
-use Rattle.record.specs.Registers.{wordBits, doubleBits}
+use Rattle.record.specs.Registers.{wordBits, halfBits, doubleBits}
 
 -- ==== Scalar video, vset included
 
@@ -77,21 +77,25 @@ lanesFit l = maskFits (l .width) (l .mask) && digitsFit (l .width) (l .asel) && 
 
 -- ==== set, setp, selp, slct
 
--- the width of a type: b32 b64 u32 u64 s32 s64 f32 f64
+-- the width of a type: b32 b64 u32 u64 s32 s64 f32 f64; T-06: b16 u16 s16
 abbrev pub typeBits : DataType → ℕ
+typeBits B16 = halfBits
 typeBits B32 = wordBits
 typeBits B64 = doubleBits
+typeBits U16 = halfBits
 typeBits U32 = wordBits
 typeBits U64 = doubleBits
+typeBits S16 = halfBits
 typeBits S32 = wordBits
 typeBits S64 = doubleBits
 typeBits F32 = wordBits
 typeBits F64 = doubleBits
 
--- by width: a word for a type of 32 bits, a double for one of 64
+-- by width: a word for a type of 32 bits, a half for one of 16, a double for one of 64
 abbrev pub operandBits : Operand → ℕ
-operandBits (Word w) = wordBits
-operandBits (Double d) = doubleBits
+operandBits (operand.Word w) = wordBits
+operandBits (operand.Half h) = halfBits
+operandBits (operand.Double d) = doubleBits
 
 abbrev pub byWidth : DataType → Operand → Bool
 byWidth t o = eqb (operandBits o) (typeBits t)

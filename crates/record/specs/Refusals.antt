@@ -14,7 +14,6 @@ use Rattle.record.specs.declared.Form.the-variants.{Plain, Merge, Combin
 use Rattle.record.specs.declared.Scalar.{Scalar}
 use Rattle.record.specs.declared.Lanes.{Lanes}
 use Rattle.record.specs.declared.Operand.{Operand}
-use Rattle.record.specs.declared.Operand.the-variants.{Word, Double}
 use Rattle.record.specs.declared.Comparison.{Comparison}
 use Rattle.record.specs.declared.Destination.{Destination}
 use Rattle.record.specs.declared.Destination.the-variants.{One, Pair, First, Second}
@@ -22,37 +21,36 @@ use Rattle.record.specs.declared.Choice.{Choice}
 use Rattle.record.specs.declared.Instruction.{Instruction}
 use Rattle.record.specs.declared.Instruction.the-variants.{Arithmetic, Vset, VsetLanes, ArithmeticLanes, Set, Setp, Selp, Slct}
 use Rattle.record.specs.declared.Record.{Record}
-use Rattle.record.specs.Registers.{wordInFile, doubleInFile, predInFile}
+use Rattle.record.specs.Registers.{r, p, operandPlace, isInside}
 use Rattle.record.specs.Modifiers.{modifiersFit}
 use Rattle.record.specs.Operands.{operandsFit}
 
--- ---- 6: a register number at or over its file's size. Below: every register that the record names is in its file
+-- ---- 6: a register number at or over its file's size (T-06: 6 and 8 include the new file). Below: every register that the record names is in its file
 
 abbrev pub conditionInRange : Condition → Bool
-conditionInRange c = predInFile (c .pred)
+conditionInRange c = isInside (p (c .pred))
 
 abbrev pub guardInRange : Guard → Bool
 guardInRange Always = true
 guardInRange (When c) = conditionInRange c
 
 abbrev pub selectedInRange : Selected → Bool
-selectedInRange (Whole w) = wordInFile w
-selectedInRange (Part w sel) = wordInFile w
+selectedInRange (Whole w) = isInside (r w)
+selectedInRange (Part w sel) = isInside (r w)
 
 abbrev pub formInRange : Form → Bool
-formInRange (Plain d) = wordInFile d
-formInRange (Merge d sel c) = wordInFile d && wordInFile c
-formInRange (Combine op d c) = wordInFile d && wordInFile c
+formInRange (Plain d) = isInside (r d)
+formInRange (Merge d sel c) = isInside (r d) && isInside (r c)
+formInRange (Combine op d c) = isInside (r d) && isInside (r c)
 
 abbrev pub scalarInRange : Scalar → Bool
 scalarInRange s = formInRange (s .form) && selectedInRange (s .a) && selectedInRange (s .b)
 
 abbrev pub lanesInRange : Lanes → Bool
-lanesInRange l = wordInFile (l .d) && wordInFile (l .a) && wordInFile (l .b) && wordInFile (l .c)
+lanesInRange l = isInside (r (l .d)) && isInside (r (l .a)) && isInside (r (l .b)) && isInside (r (l .c))
 
 abbrev pub operandInRange : Operand → Bool
-operandInRange (Word w) = wordInFile w
-operandInRange (Double d) = doubleInFile d
+operandInRange o = isInside (operandPlace o)
 
 abbrev pub combinationInRange : Combination → Bool
 combinationInRange Alone = true
@@ -62,10 +60,10 @@ abbrev pub comparisonInRange : Comparison → Bool
 comparisonInRange s = operandInRange (s .a) && operandInRange (s .b) && combinationInRange (s .combination)
 
 abbrev pub destinationInRange : Destination → Bool
-destinationInRange (One p) = predInFile p
-destinationInRange (Pair p q) = predInFile p && predInFile q
-destinationInRange (First p) = predInFile p
-destinationInRange (Second q) = predInFile q
+destinationInRange (One a) = isInside (p a)
+destinationInRange (Pair a b) = isInside (p a) && isInside (p b)
+destinationInRange (First a) = isInside (p a)
+destinationInRange (Second b) = isInside (p b)
 
 abbrev pub choiceInRange : Choice → Bool
 choiceInRange s = operandInRange (s .d) && operandInRange (s .a) && operandInRange (s .b)
@@ -75,21 +73,21 @@ instructionInRange (Arithmetic op dtype sat scalar) = scalarInRange scalar
 instructionInRange (Vset cmp scalar) = scalarInRange scalar
 instructionInRange (VsetLanes cmp lanes) = lanesInRange lanes
 instructionInRange (ArithmeticLanes op dtype sat lanes) = lanesInRange lanes
-instructionInRange (Set dtype d comparison) = wordInFile d && comparisonInRange comparison
+instructionInRange (Set dtype d comparison) = isInside (r d) && comparisonInRange comparison
 instructionInRange (Setp d comparison) = destinationInRange d && comparisonInRange comparison
-instructionInRange (Selp choice c) = choiceInRange choice && predInFile c
-instructionInRange (Slct ctype choice c) = choiceInRange choice && wordInFile c
+instructionInRange (Selp choice c) = choiceInRange choice && isInside (p c)
+instructionInRange (Slct ctype choice c) = choiceInRange choice && isInside (r c)
 
 abbrev pub numbersInRange : Record → Bool
-numbersInRange r = guardInRange (r .guard) && instructionInRange (r .instruction)
+numbersInRange x = guardInRange (x .guard) && instructionInRange (x .instruction)
 
 -- ---- 7: both places of a pair are the same predicate. Below: they are two
 
 abbrev pub destinationApart : Destination → Bool
-destinationApart (One p) = true
-destinationApart (Pair p q) = not (eqb (p .0) (q .0))
-destinationApart (First p) = true
-destinationApart (Second q) = true
+destinationApart (One a) = true
+destinationApart (Pair a b) = not (eqb (a .0) (b .0))
+destinationApart (First a) = true
+destinationApart (Second b) = true
 
 abbrev pub instructionApart : Instruction → Bool
 instructionApart (Arithmetic op dtype sat scalar) = true
@@ -102,12 +100,12 @@ instructionApart (Selp choice c) = true
 instructionApart (Slct ctype choice c) = true
 
 abbrev pub pairApart : Record → Bool
-pairApart r = instructionApart (r .instruction)
+pairApart x = instructionApart (x .instruction)
 
 -- ---- 8: record is not legal: it breaks a rule above on modifiers, operands, register numbers or pairs (stated of the record, with no line)
 
 unfoldable pub isLegal : Record → Bool
-isLegal r = modifiersFit r && operandsFit r && numbersInRange r && pairApart r
+isLegal x = modifiersFit x && operandsFit x && numbersInRange x && pairApart x
 
 abbrev pub Legal : Record → Type 0
-Legal r = isLegal r ≡ true
+Legal x = isLegal x ≡ true

@@ -1,22 +1,27 @@
 // What one line of PTX says, as a record. Reading, writing and executing stand on it; specs/ says when a record is legal, crates fits and legal test it.
 // Where it costs nothing the types rule out what a line cannot say; an illegal record can still be made.
 
-// Word, double-word and predicate numbers are kept apart. Each holds every number that a line can spell, 0 to 999.
+// Word, half-word (T-06), double-word and predicate numbers are kept apart. Each holds every number that a line can spell, 0 to 999.
 pub struct Word(pub u16);
+
+pub struct Half(pub u16);
 
 pub struct Double(pub u16);
 
 pub struct Pred(pub u16);
 
-// The three lent files.
+// The four lent files, in the order in which they are lent.
 pub enum File {
     Words,
+    Halves,
     Doubles,
     Preds,
 }
 
 // The sizes of the files.
 pub const WORDS: u16 = 64;
+
+pub const HALVES: u16 = 32;
 
 pub const DOUBLES: u16 = 32;
 
@@ -43,10 +48,13 @@ pub enum SlctType {
 
 // The types of stype, of selp, and of slct's dtype.
 pub enum DataType {
+    B16,
     B32,
     B64,
+    U16,
     U32,
     U64,
+    S16,
     S32,
     S64,
     F32,
@@ -217,6 +225,7 @@ pub struct Lanes {
 // An operand by width.
 pub enum Operand {
     Word(Word),
+    Half(Half),
     Double(Double),
 }
 

@@ -97,14 +97,15 @@ fn put_run(
     at: usize,
     r: Record,
     words: &mut [u32],
+    halves: &mut [u16],
     doubles: &mut [u64],
     preds: &mut [u8],
 ) -> usize
     requires { ⌜ Legal r ⌝ }
-    ensures { λ m. ⌜ Puts (buffer (now (out .entry)) at) (executedText (run r (files (now (words .entry)) (now (doubles .entry)) (now (preds .entry))) .answer) r) (buffer (now (out .exit)) m) ⌝ }
-    ensures { λ _. ⌜ files (now (words .exit)) (now (doubles .exit)) (now (preds .exit)) ≡ run r (files (now (words .entry)) (now (doubles .entry)) (now (preds .entry))) .files ⌝ }
+    ensures { λ m. ⌜ Puts (buffer (now (out .entry)) at) (executedText (run r (files (now (words .entry)) (now (halves .entry)) (now (doubles .entry)) (now (preds .entry))) .answer) r) (buffer (now (out .exit)) m) ⌝ }
+    ensures { λ _. ⌜ files (now (words .exit)) (now (halves .exit)) (now (doubles .exit)) (now (preds .exit)) ≡ run r (files (now (words .entry)) (now (halves .entry)) (now (doubles .entry)) (now (preds .entry))) .files ⌝ }
 {
-    let x = execute::execute(r, words, doubles, preds);
+    let x = execute::execute(r, words, halves, doubles, preds);
     put_executed(out, at, r, x)
 }
 
@@ -114,13 +115,14 @@ fn put_answer(
     at: usize,
     line: &[u8],
     words: &mut [u32],
+    halves: &mut [u16],
     doubles: &mut [u64],
     preds: &mut [u8],
 ) -> usize
-    ensures { λ m. ⌜ PutsAnswer (now (line .entry)) (files (now (words .entry)) (now (doubles .entry)) (now (preds .entry))) (files (now (words .exit)) (now (doubles .exit)) (now (preds .exit))) (buffer (now (out .entry)) at) (buffer (now (out .exit)) m) ⌝ }
+    ensures { λ m. ⌜ PutsAnswer (now (line .entry)) (files (now (words .entry)) (now (halves .entry)) (now (doubles .entry)) (now (preds .entry))) (files (now (words .exit)) (now (halves .exit)) (now (doubles .exit)) (now (preds .exit))) (buffer (now (out .entry)) at) (buffer (now (out .exit)) m) ⌝ }
 {
     match read::read(line) {
-        Reading::Record(r) => put_run(out, at, r, words, doubles, preds),
+        Reading::Record(r) => put_run(out, at, r, words, halves, doubles, preds),
         Reading::Refused(n) => put_refused(out, at, n),
         Reading::RefusedAt(n, place) => put_placed(out, at, n, place),
     }
@@ -133,14 +135,15 @@ fn put_line(
     number: u64,
     line: &[u8],
     words: &mut [u32],
+    halves: &mut [u16],
     doubles: &mut [u64],
     preds: &mut [u8],
 ) -> usize
-    ensures { λ m. ⌜ PutsTurn number (now (line .entry)) (files (now (words .entry)) (now (doubles .entry)) (now (preds .entry))) (files (now (words .exit)) (now (doubles .exit)) (now (preds .exit))) (buffer (now (out .entry)) at) (buffer (now (out .exit)) m) ⌝ }
+    ensures { λ m. ⌜ PutsTurn number (now (line .entry)) (files (now (words .entry)) (now (halves .entry)) (now (doubles .entry)) (now (preds .entry))) (files (now (words .exit)) (now (halves .exit)) (now (doubles .exit)) (now (preds .exit))) (buffer (now (out .entry)) at) (buffer (now (out .exit)) m) ⌝ }
 {
     let at1 = text::put_decimal(out, at, number);
     let at2 = text::push(out, at1, b' ');
-    let at3 = put_answer(out, at2, line, words, doubles, preds);
+    let at3 = put_answer(out, at2, line, words, halves, doubles, preds);
     text::push(out, at3, LINE_FEED)
 }
 
@@ -183,19 +186,29 @@ fn print_lines(
     from: usize,
     first: u64,
     words: &mut [u32],
+    halves: &mut [u16],
     doubles: &mut [u64],
     preds: &mut [u8],
     out: &mut [u8],
 ) -> Progress
     requires { ⌜ length (now listing) ≤ listingLimit ⌝ }
-    ensures { λ r. ⌜ Prints (now (listing .entry)) from first (files (now (words .entry)) (now (doubles .entry)) (now (preds .entry))) (now (out .entry)) (r .at) (r .number) (r .len) (files (now (words .exit)) (now (doubles .exit)) (now (preds .exit))) (now (out .exit)) ⌝ }
+    ensures { λ r. ⌜ Prints (now (listing .entry)) from first (files (now (words .entry)) (now (halves .entry)) (now (doubles .entry)) (now (preds .entry))) (now (out .entry)) (r .at) (r .number) (r .len) (files (now (words .exit)) (now (halves .exit)) (now (doubles .exit)) (now (preds .exit))) (now (out .exit)) ⌝ }
 {
     let mut at = from;
     let mut number = first;
     let mut used = 0;
     while goes_on(listing.len(), at, out.len() - used) {
         let end = line_end(listing, at);
-        used = put_line(out, used, number, &listing[at..end], words, doubles, preds);
+        used = put_line(
+            out,
+            used,
+            number,
+            &listing[at..end],
+            words,
+            halves,
+            doubles,
+            preds,
+        );
         number = std::num::wrapping_add_u64(number, 1);
         at = next_place(listing, end);
     }
@@ -232,14 +245,15 @@ pub fn some_lines(
     from: usize,
     first: u64,
     words: &mut [u32],
+    halves: &mut [u16],
     doubles: &mut [u64],
     preds: &mut [u8],
     out: &mut [u8],
 ) -> Progress
-    ensures { λ r. ⌜ Prints (now (listing .entry)) from first (files (now (words .entry)) (now (doubles .entry)) (now (preds .entry))) (now (out .entry)) (r .at) (r .number) (r .len) (files (now (words .exit)) (now (doubles .exit)) (now (preds .exit))) (now (out .exit)) ⌝ }
+    ensures { λ r. ⌜ Prints (now (listing .entry)) from first (files (now (words .entry)) (now (halves .entry)) (now (doubles .entry)) (now (preds .entry))) (now (out .entry)) (r .at) (r .number) (r .len) (files (now (words .exit)) (now (halves .exit)) (now (doubles .exit)) (now (preds .exit))) (now (out .exit)) ⌝ }
 {
     if LISTING_LIMIT < listing.len() {
         return too_long(listing, from, first, out);
     }
-    print_lines(listing, from, first, words, doubles, preds, out)
+    print_lines(listing, from, first, words, halves, doubles, preds, out)
 }

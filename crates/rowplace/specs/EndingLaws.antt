@@ -17,7 +17,7 @@ use Rattle.record.specs.declared.SlctType.{SlctType}
 use Rattle.record.specs.declared.SetType.the-variants as set
 use Rattle.record.specs.declared.SlctType.the-variants as slct
 use Rattle.record.specs.declared.DataType.{DataType}
-use Rattle.record.specs.declared.DataType.the-variants.{B32, B64, U32, U64, S32, S64, F32, F64}
+use Rattle.record.specs.declared.DataType.the-variants.{B16, B32, B64, U16, U32, U64, S16, S32, S64, F32, F64}
 use Rattle.record.specs.declared.Cmp6.{Cmp6}
 use Rattle.record.specs.declared.Cmp6.the-variants.{Eq}
 use Rattle.record.specs.declared.CmpOp.{CmpOp}
@@ -170,6 +170,9 @@ not-both false e = let z : _≡_ {A = ℕ} 0 1 = cc in absurd (omega arith)
 
 ftz-fits : (c : CmpOp) (t : DataType) → Fitting c true t → Fitting c true F32
 ftz-fits c F32 e = e
+ftz-fits c B16 e = not-both (cmpFits (kindOf B16) c) e
+ftz-fits c U16 e = not-both (cmpFits (kindOf U16) c) e
+ftz-fits c S16 e = not-both (cmpFits (kindOf S16) c) e
 ftz-fits c B32 e = not-both (cmpFits (kindOf B32) c) e
 ftz-fits c B64 e = not-both (cmpFits (kindOf B64) c) e
 ftz-fits c U32 e = not-both (cmpFits (kindOf U32) c) e

@@ -6,8 +6,10 @@ use mathlib.Core.Bool.{Bool, true, not, _&&_, cond}
 use mathlib.Core.List.{List, [], _∷_, _++_}
 use lib.ListN.{getD, set, length}
 use lib.Dec.{leb, eqb}
-use Rattle.record.specs.Registers.{Files, files, Place, word, double, pred, r, p, operandPlace, wordCount, doubleCount, predCount}
+use Rattle.record.specs.Registers.{Files, fileOf, withFile, Place, reg, r, p, operandPlace, at, countOf}
 use Rattle.record.specs.Refusals.{isLegal}
+use Rattle.record.specs.declared.File.{File}
+use Rattle.record.specs.declared.File.the-variants.{Words, Halves, Doubles, Preds}
 use Rattle.record.specs.declared.Word.{Word}
 use Rattle.record.specs.declared.Pred.{Pred}
 use Rattle.record.specs.declared.Condition.{Condition}
@@ -28,7 +30,7 @@ use Rattle.record.specs.declared.Destination.the-variants.{One, Pair, First, Se
 use Rattle.record.specs.declared.Instruction.{Instruction}
 use Rattle.record.specs.declared.Instruction.the-variants.{Arithmetic, Vset, VsetLanes, ArithmeticLanes, Set, Setp, Selp, Slct}
 use Rattle.record.specs.declared.Record.{Record}
-use Rattle.rules.specs.Numbers.{bit, wordSize}
+use Rattle.rules.specs.Numbers.{bit, wordSize, halfSize}
 use Rattle.rules.specs.Execution.{arithmeticOf, vsetOf, lanesOf, arithmeticLanesOf, comparisonOf, boolOf, setOf, selpOf, slctOf}
 
 -- ==== what is read, each from the file that it stands in
@@ -39,9 +41,8 @@ wordOf words w = getD words (w .0) 0
 abbrev pub predOf : List ℕ → Pred → ℕ
 predOf preds p = getD preds (p .0) 0
 
-abbrev pub operandOf : List ℕ → List ℕ → Operand → ℕ
-operandOf words doubles (Operand.Word w) = getD words (w .0) 0
-operandOf words doubles (Operand.Double d) = getD doubles (d .0) 0
+abbrev pub operandOf : Files → Operand → ℕ
+operandOf f o = at f (operandPlace o)
 
 abbrev pub selectedWord : Selected → Word
 selectedWord (Whole w) = w
@@ -66,8 +67,8 @@ combinedOf preds Alone t = t
 combinedOf preds (With op c) t = boolOf op t (conditionHolds preds c)
 
 -- t of set and setp
-unfoldable pub testOf : List ℕ → List ℕ → Comparison → Bool
-testOf words doubles s = comparisonOf (s .cmp) (s .ftz) (s .stype) (operandOf words doubles (s .a)) (operandOf words doubles (s .b))
+unfoldable pub testOf : Files → Comparison → Bool
+testOf f s = comparisonOf (s .cmp) (s .ftz) (s .stype) (operandOf f (s .a)) (operandOf f (s .b))
 
 -- ==== which places a record names, from the record alone
 
@@ -145,6 +146,7 @@ placesOf (w ∷ ws) = w .place ∷ placesOf ws
 -- as much as the place holds: all of it where the widths agree, as in every legal record
 abbrev pub kept : Operand → ℕ → ℕ
 kept (Operand.Word w) v = v % wordSize
+kept (Operand.Half h) v = v % halfSize
 kept (Operand.Double d) v = v
 
 -- setp writes BoolOp(t, c) to the first place, BoolOp(not t, c) to the second; `_` drops one
@@ -168,23 +170,21 @@ writes (VsetLanes cmp l) f =
 writes (ArithmeticLanes op dtype sat l) f =
     write (r (l .d)) (arithmeticLanesOf op dtype sat l (wordOf (f .words) (l .a)) (wordOf (f .words) (l .b)) (wordOf (f .words) (l .c))) ∷ []
 writes (Set dtype d s) f =
-    write (r d) (setOf dtype (combinedOf (f .preds) (s .combination) (testOf (f .words) (f .doubles) s))) ∷ []
+    write (r d) (setOf dtype (combinedOf (f .preds) (s .combination) (testOf f s))) ∷ []
 writes (Setp d s) f =
-    destinationWrites d (combinedOf (f .preds) (s .combination) (testOf (f .words) (f .doubles) s))
-    (combinedOf (f .preds) (s .combination) (not (testOf (f .words) (f .doubles) s)))
+    destinationWrites d (combinedOf (f .preds) (s .combination) (testOf f s))
+    (combinedOf (f .preds) (s .combination) (not (testOf f s)))
 writes (Selp s c) f =
     write (operandPlace (s .d))
-    (kept (s .d) (selpOf (predOf (f .preds) c) (operandOf (f .words) (f .doubles) (s .a)) (operandOf (f .words) (f .doubles) (s .b))))
+    (kept (s .d) (selpOf (predOf (f .preds) c) (operandOf f (s .a)) (operandOf f (s .b))))
     ∷ []
 writes (Slct ctype s c) f =
     write (operandPlace (s .d))
-    (kept (s .d) (slctOf ctype (wordOf (f .words) c) (operandOf (f .words) (f .doubles) (s .a)) (operandOf (f .words) (f .doubles) (s .b))))
+    (kept (s .d) (slctOf ctype (wordOf (f .words) c) (operandOf f (s .a)) (operandOf f (s .b))))
     ∷ []
 
 abbrev pub put : Place → ℕ → Files → Files
-put (word n) v f = files (set (f .words) n v) (f .doubles) (f .preds)
-put (double n) v f = files (f .words) (set (f .doubles) n v) (f .preds)
-put (pred n) v f = files (f .words) (f .doubles) (set (f .preds) n v)
+put (reg file n) v f = withFile file (set (fileOf f file) n v) f
 
 abbrev pub putAll : List Write → Files → Files
 putAll [] f = f
@@ -196,9 +196,12 @@ after i f = putAll (writes i f) f
 
 -- ==== executing a record
 
--- 10 says that this does not hold: file lengths not 64, 32, 16
+-- 10 says that this does not hold: file lengths not 64, 32, 16; T-06: 10 reads 64, 32, 32, 16 with the new file second
+abbrev pub sizeFits : Files → File → Bool
+sizeFits f file = eqb (length (fileOf f file)) (countOf file)
+
 unfoldable pub sizesFit : Files → Bool
-sizesFit f = eqb (length (f .words)) wordCount && eqb (length (f .doubles)) doubleCount && eqb (length (f .preds)) predCount
+sizesFit f = sizeFits f Words && sizeFits f Halves && sizeFits f Doubles && sizeFits f Preds
 
 -- 11 says that this does not hold: some predicate byte over 1
 unfoldable pub predsFit : List ℕ → Bool

@@ -32,14 +32,14 @@ use Rattle.record.specs.declared.CmpF.the-variants.{Equ, Neu, Ltu, Leu, Gtu, Ge
 use Rattle.record.specs.declared.CmpOp
 use Rattle.record.specs.declared.CmpOp.{CmpOp}
 use Rattle.record.specs.declared.DataType.{DataType}
-use Rattle.record.specs.declared.DataType.the-variants.{B32, B64, U32, U64, S32, S64, F32, F64}
+use Rattle.record.specs.declared.DataType.the-variants.{B16, B32, B64, U16, U32, U64, S16, S32, S64, F32, F64}
 use Rattle.record.specs.declared.BoolOp.{BoolOp}
 use Rattle.record.specs.declared.BoolOp.the-variants.{And, Or, Xor}
 use Rattle.record.specs.declared.SetType
 use Rattle.record.specs.declared.SetType.{SetType}
 use Rattle.record.specs.declared.SlctType
 use Rattle.record.specs.declared.SlctType.{SlctType}
-use Rattle.rules.specs.Numbers.{wordSize, doubleSize, laneSize, lanes, partAt, joined, exactOf, isSigned, lowOf, minZ, maxZ, bit, holdsZ}
+use Rattle.rules.specs.Numbers.{wordSize, halfSize, doubleSize, laneSize, lanes, partAt, joined, exactOf, isSigned, lowOf, minZ, maxZ, bit, holdsZ}
 
 -- ==== Scalar video
 
@@ -217,12 +217,15 @@ pub data Value : Type 0 where
 abbrev pub flushed : Bool → ℕ → ℕ
 flushed ftz x = cond (ftz && ltb (x % top binary32) (hid binary32)) (cond (leb (top binary32) x) (top binary32) 0) x
 
--- what the bits of a register stand for under stype. A type of 32 bits looks at the low 32
+-- what the bits of a register stand for under stype. A type of 32 bits looks at the low 32, one of 16 (T-06) at the low 16
 unfoldable pub valueOf : DataType → Bool → ℕ → Value
+valueOf B16 ftz x = whole (exactOf false halfSize (x % halfSize))
 valueOf B32 ftz x = whole (exactOf false wordSize (x % wordSize))
 valueOf B64 ftz x = whole (exactOf false doubleSize x)
+valueOf U16 ftz x = whole (exactOf false halfSize (x % halfSize))
 valueOf U32 ftz x = whole (exactOf false wordSize (x % wordSize))
 valueOf U64 ftz x = whole (exactOf false doubleSize x)
+valueOf S16 ftz x = whole (exactOf true halfSize (x % halfSize))
 valueOf S32 ftz x = whole (exactOf true wordSize (x % wordSize))
 valueOf S64 ftz x = whole (exactOf true doubleSize x)
 valueOf F32 ftz x = single (ofBits binary32 (flushed ftz (x % wordSize)))

@@ -5,7 +5,7 @@ use mathlib.Core.Bool.{Bool}
 use mathlib.Core.List.{List, [], _∷_, _++_, map}
 use Rattle.signs.specs.Bytes.{isBlank, isNameByte, All, Some}
 use Rattle.signs.specs.Text.{bytes}
-use Rattle.record.specs.Registers.{Place, word, double, pred}
+use Rattle.record.specs.Registers.{Place, reg}
 use Rattle.rules.specs.Shape.{Name, headText, Spot, at, nothing, OperandTree, inverted, pair, bare, part, operandText, guardText}
 
 -- optionally a guard and at least one blank
@@ -66,9 +66,7 @@ abbrev pub numberLimit : ℕ
 numberLimit = 1000
 
 abbrev pub GoodPlace : Place → Type 0
-GoodPlace (word n) = n < numberLimit
-GoodPlace (double n) = n < numberLimit
-GoodPlace (pred n) = n < numberLimit
+GoodPlace (reg file n) = n < numberLimit
 
 -- a name is one or more of a-z and 0-9
 abbrev pub GoodName : Name → Type 0

@@ -10,7 +10,7 @@ use Rattle.record.specs.declared.SetType.{SetType}
 use Rattle.record.specs.declared.SlctType
 use Rattle.record.specs.declared.SlctType.{SlctType}
 use Rattle.record.specs.declared.DataType.{DataType}
-use Rattle.record.specs.declared.DataType.the-variants.{B32, B64, U32, U64, S32, S64, F32, F64}
+use Rattle.record.specs.declared.DataType.the-variants.{B16, B32, B64, U16, U32, U64, S16, S32, S64, F32, F64}
 use Rattle.record.specs.declared.Cmp6.{Cmp6}
 use Rattle.record.specs.declared.Cmp6.the-variants.{Eq, Ne, Lt, Le, Gt, Ge}
 use Rattle.record.specs.declared.CmpU.the-variants.{Lo, Ls, Hi, Hs}
@@ -52,12 +52,15 @@ setTypeName SetType.U32 = bytes "u32"
 setTypeName SetType.S32 = bytes "s32"
 setTypeName SetType.F32 = bytes "f32"
 
--- b32 b64 u32 u64 s32 s64 f32 f64
+-- b32 b64 u32 u64 s32 s64 f32 f64; T-06: b16 u16 s16
 abbrev pub typeName : DataType → Name
+typeName B16 = bytes "b16"
 typeName B32 = bytes "b32"
 typeName B64 = bytes "b64"
+typeName U16 = bytes "u16"
 typeName U32 = bytes "u32"
 typeName U64 = bytes "u64"
+typeName S16 = bytes "s16"
 typeName S32 = bytes "s32"
 typeName S64 = bytes "s64"
 typeName F32 = bytes "f32"

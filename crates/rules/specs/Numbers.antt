@@ -4,7 +4,7 @@ use mathlib.Core.Bool.{Bool, true, false, not, _&&_, cond}
 use lib.IntN.{ℤ, pos, negsuc, subℕ}
 use lib.Signed.{ltZ, leZ}
 use lib.Dec.{leb}
-use Rattle.record.specs.Registers.{wordBits, doubleBits}
+use Rattle.record.specs.Registers.{wordBits, halfBits, doubleBits}
 use Rattle.record.specs.declared.VideoType.{VideoType}
 use Rattle.record.specs.declared.VideoType.the-variants.{U32, S32}
 use Rattle.record.specs.declared.LaneWidth.{LaneWidth}
@@ -12,9 +12,12 @@ use Rattle.record.specs.declared.LaneWidth.the-variants.{Half, Byte}
 use Rattle.record.specs.declared.Cmp6.{Cmp6}
 use Rattle.record.specs.declared.Cmp6.the-variants.{Eq, Ne, Lt, Le, Gt, Ge}
 
--- how many values a word has, and how many a double
+-- how many values a word has, a half and a double
 abbrev pub wordSize : ℕ
 wordSize = 2 ^ wordBits
+
+abbrev pub halfSize : ℕ
+halfSize = 2 ^ halfBits
 
 abbrev pub doubleSize : ℕ
 doubleSize = 2 ^ doubleBits

@@ -5,7 +5,9 @@ use mathlib.Core.List.{List, [], _∷_, _++_}
 use lib.Dec.{ltb}
 use Rattle.signs.specs.Text.{bytes}
 use Rattle.signs.specs.Digits.{zeroByte}
-use Rattle.record.specs.Registers.{Place, word, double, pred}
+use Rattle.record.specs.declared.File.{File}
+use Rattle.record.specs.declared.File.the-variants.{Words, Halves, Doubles, Preds}
+use Rattle.record.specs.Registers.{Place, reg}
 
 -- Head: names joined by `.`; a name is one or more of a-z and 0-9
 abbrev pub Name : Type 0
@@ -29,11 +31,15 @@ numberText n =
     (cond (ltb n 100) (digit (n / 10) ∷ digit n ∷ [])
     (digit (n / 100) ∷ digit (n / 10) ∷ digit n ∷ []))
 
--- Register: `%r`, `%rd` or `%p` and a number
+-- Register: `%r`, `%rd` or `%p` (T-06: or `%rs`) and a number
+abbrev pub fileText : File → List ℕ
+fileText Words = bytes "%r"
+fileText Halves = bytes "%rs"
+fileText Doubles = bytes "%rd"
+fileText Preds = bytes "%p"
+
 abbrev pub registerText : Place → List ℕ
-registerText (word n) = bytes "%r" ++ numberText n
-registerText (double n) = bytes "%rd" ++ numberText n
-registerText (pred n) = bytes "%p" ++ numberText n
+registerText (reg file n) = fileText file ++ numberText n
 
 -- a place of a pair: a register or `_`
 pub data Spot : Type 0 where

@@ -18,6 +18,7 @@ use record::Digits;
 use record::Double;
 use record::Form;
 use record::Guard;
+use record::Half;
 use record::Instruction;
 use record::LaneArith;
 use record::LaneWidth;
@@ -164,7 +165,10 @@ fn data_type(n: u16) -> DataType {
         4 => DataType::S32,
         5 => DataType::S64,
         6 => DataType::F32,
-        _ => DataType::F64,
+        7 => DataType::F64,
+        8 => DataType::B16,
+        9 => DataType::U16,
+        _ => DataType::S16,
     }
 }
 
@@ -320,7 +324,8 @@ fn lane_arith(n: u16) -> LaneArith {
 fn operand(file: u16, n: u16) -> Operand {
     match file {
         0 => Operand::Word(Word(n)),
-        _ => Operand::Double(Double(n)),
+        1 => Operand::Double(Double(n)),
+        _ => Operand::Half(Half(n)),
     }
 }
 

@@ -15,9 +15,11 @@ ghost use Prim.Native.Nat.{_≤_};
 // The files, one place more than usual, how many places of each are lent, how many registers are open, and the values of the next two.
 struct Files {
     words: [u32; 65],
+    halves: [u16; 33],
     doubles: [u64; 33],
     preds: [u8; 17],
     word_count: usize,
+    half_count: usize,
     double_count: usize,
     pred_count: usize,
     open: usize,
@@ -26,6 +28,8 @@ struct Files {
 }
 
 const WORDS: usize = 65;
+
+const HALVES: usize = 33;
 
 const DOUBLES: usize = 33;
 
@@ -40,6 +44,9 @@ fn with_value(f: Files, letter: u8, n: usize, value: u64) -> Files {
         b'r' => {
             next.words[n % WORDS] = (value % 4294967296) as u32;
         }
+        b'h' => {
+            next.halves[n % HALVES] = (value % 65536) as u16;
+        }
         b'd' => {
             next.doubles[n % DOUBLES] = value;
         }
@@ -48,6 +55,9 @@ fn with_value(f: Files, letter: u8, n: usize, value: u64) -> Files {
         }
         b'R' => {
             next.word_count = n;
+        }
+        b'H' => {
+            next.half_count = n;
         }
         b'D' => {
             next.double_count = n;
@@ -63,9 +73,11 @@ fn with_value(f: Files, letter: u8, n: usize, value: u64) -> Files {
 fn start(first: u64, second: u64) -> Files {
     let mut f = Files {
         words: [0u32; WORDS],
+        halves: [0u16; HALVES],
         doubles: [0u64; DOUBLES],
         preds: [0u8; PREDS],
         word_count: 64,
+        half_count: 32,
         double_count: 32,
         pred_count: 16,
         open: 0,
@@ -76,6 +88,7 @@ fn start(first: u64, second: u64) -> Files {
     while 0 < k {
         k -= 1;
         f = with_value(f, b'r', k as usize, k * 0x01010101);
+        f = with_value(f, b'h', k as usize, k);
         f = with_value(f, b'd', k as usize, k);
     }
     f
@@ -118,6 +131,7 @@ fn set_up(line: &[u8], first: u64, second: u64) -> Files {
 fn value_of(f: Files, letter: u8, n: usize) -> u64 {
     match letter {
         b'r' => f.words[n % WORDS] as u64,
+        b'h' => f.halves[n % HALVES] as u64,
         b'd' => f.doubles[n % DOUBLES],
         _ => f.preds[n % PREDS] as u64,
     }
@@ -169,27 +183,37 @@ fn print_executed(e: Executed) {
 struct Run {
     answer: Executed,
     words: [u32; 65],
+    halves: [u16; 33],
     doubles: [u64; 33],
     preds: [u8; 17],
 }
 
-// Lends the first w words, d doubles and p predicates.
+// Lends the first w words, h halves, d doubles and p predicates.
 fn executed(
     record: Fields,
     mut words: [u32; 65],
+    mut halves: [u16; 33],
     mut doubles: [u64; 33],
     mut preds: [u8; 17],
     w: usize,
+    h: usize,
     d: usize,
     p: usize,
 ) -> Run
-    requires { ⌜ (w ≤ 65) × (d ≤ 33) × (p ≤ 17) ⌝ }
+    requires { ⌜ (w ≤ 65) × (h ≤ 33) × (d ≤ 33) × (p ≤ 17) ⌝ }
 {
     let r = record_of(record);
-    let e = execute::execute(r, &mut words[0..w], &mut doubles[0..d], &mut preds[0..p]);
+    let e = execute::execute(
+        r,
+        &mut words[0..w],
+        &mut halves[0..h],
+        &mut doubles[0..d],
+        &mut preds[0..p],
+    );
     Run {
         answer: e,
         words: words,
+        halves: halves,
         doubles: doubles,
         preds: preds,
     }
@@ -197,27 +221,33 @@ fn executed(
 
 fn answer_run(record: Fields, before: Files) {
     let words = before.words;
+    let halves = before.halves;
     let doubles = before.doubles;
     let preds = before.preds;
     let r = executed(
         record,
         words,
+        halves,
         doubles,
         preds,
         before.word_count % 66,
+        before.half_count % 34,
         before.double_count % 34,
         before.pred_count % 18,
     );
     let answer = r.answer;
     print_executed(answer);
     let words = r.words;
+    let halves = r.halves;
     let doubles = r.doubles;
     let preds = r.preds;
     let mut after = before;
     after.words = words;
+    after.halves = halves;
     after.doubles = doubles;
     after.preds = preds;
     print_changes(before, after, b'r', WORDS, 8);
+    print_changes(before, after, b'h', HALVES, 4);
     print_changes(before, after, b'd', DOUBLES, 16);
     print_changes(before, after, b'p', PREDS, 1);
 }

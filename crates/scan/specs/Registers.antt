@@ -4,13 +4,12 @@ use mathlib.Core.List.{List}
 use mathlib.Core.Bool.{cond}
 use lib.Dec.{eqb}
 use lib.ListN.{getD, drop}
-use Rattle.tree.specs.declared.Place.{Place}
-use Rattle.tree.specs.declared.Place.the-variants.{Word, Double, Pred}
+use Rattle.tree.specs.Seen.{placeIn}
 use Rattle.scan.specs.Numbers.{numberFound}
 use Rattle.scan.specs.declared.Number.{Number}
 use Rattle.scan.specs.declared.Number.the-variants as number
 use Rattle.record.specs.declared.File.{File}
-use Rattle.record.specs.declared.File.the-variants.{Words, Doubles, Preds}
+use Rattle.record.specs.declared.File.the-variants.{Words, Halves, Doubles, Preds}
 use Rattle.scan.specs.declared.Prefix.{Prefix}
 use Rattle.scan.specs.declared.Prefix.the-variants.{Of, Not}
 use Rattle.scan.specs.declared.Register.{Register}
@@ -20,14 +19,9 @@ unfoldable pub prefixBy : ℕ → ℕ → ℕ → Prefix
 prefixBy a b c =
     cond (eqb a 37)
     (cond (eqb b 112) (Of Preds 2)
-    (cond (eqb b 114) (cond (eqb c 100) (Of Doubles 3) (Of Words 2))
+    (cond (eqb b 114) (cond (eqb c 100) (Of Doubles 3) (cond (eqb c 115) (Of Halves 3) (Of Words 2)))
     (Not 1)))
     (Not 0)
-
-abbrev pub placeIn : File → ℕ → Place
-placeIn Words v = Word (record { 0 = v })
-placeIn Doubles v = Double (record { 0 = v })
-placeIn Preds v = Pred (record { 0 = v })
 
 unfoldable pub registerFrom : File → ℕ → Number → Register
 registerFrom f n (number.Got v m) = Got (placeIn f v) (n + m)

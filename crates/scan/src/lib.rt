@@ -2,6 +2,7 @@
 // that it answers counts from the front of the slice that it is lent.
 use record::Double;
 use record::File;
+use record::Half;
 use record::Pred;
 use record::Word;
 use tree::Place;
@@ -12,7 +13,8 @@ ghost use Rattle.signs.specs.Bytes.{isBlank, isDigit, isNameByte};
 ghost use Rattle.base.specs.Pack.{radix, codeOf};
 ghost use Rattle.scan.specs.Runs.{cappedSum, inClass, runLength};
 ghost use Rattle.scan.specs.Numbers.{digitOf, numberBy, numberFound};
-ghost use Rattle.scan.specs.Registers.{prefixBy, placeIn, registerFrom, registerBy, registerOf};
+ghost use Rattle.tree.specs.Seen.{placeIn};
+ghost use Rattle.scan.specs.Registers.{prefixBy, registerFrom, registerBy, registerOf};
 
 // The highest number that a place can have.
 const MOST: usize = 18446744073709551615;
@@ -200,6 +202,9 @@ fn prefix_by(a: u8, b: u8, c: u8) -> Prefix
     if c == b'd' {
         return Prefix::Of(File::Doubles, 3);
     }
+    if c == b's' {
+        return Prefix::Of(File::Halves, 3);
+    }
     Prefix::Of(File::Words, 2)
 }
 
@@ -239,6 +244,7 @@ fn place_in(f: File, v: u16) -> Place
 {
     match f {
         File::Words => Place::Word(Word(v)),
+        File::Halves => Place::Half(Half(v)),
         File::Doubles => Place::Double(Double(v)),
         File::Preds => Place::Pred(Pred(v)),
     }

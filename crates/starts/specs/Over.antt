@@ -11,15 +11,17 @@ use native.Mathlib.Numerals.{add-one}
 use borrow.Author.Tests.{lt-ltb, le-ltb}
 use Rattle.signs.specs.Bytes.{isBlank, isDigit, isNameByte, All, Some}
 use Rattle.signs.specs.Bytes.All.{none, more}
-use Rattle.record.specs.Registers.{wordCount, doubleCount, predCount, Inside, numberOf, fileSize}
+use Rattle.record.specs.declared.File.{File}
+use Rattle.record.specs.declared.File.the-variants.{Words, Halves, Doubles, Preds}
+use Rattle.record.specs.Registers.{countOf, Inside, isInside, numberOf, fileSize}
 use Rattle.record.specs.Registers as rules
 use Rattle.signs.specs.Text.{bytes}
 use Rattle.rules.specs.Shape.{headText, registerText, at, nothing, OperandTree, inverted, pair, bare, part, operandText}
 use Rattle.rules.specs.Grammar.{GoodPlace, GoodOperand, GuardTree, unguarded, guarded, guardTreeText, GoodGuard, Divided, dividedText, GoodOthers, LineTree, lineText, Good, namesOf}
 use Rattle.rules.specs.BytePlaces.{guardStart, operandRegisters, guardRegisters, operandsRegisters, registersOf, Register, after, FirstOutside, here, later}
-use Rattle.tree.specs.Seen.{seenPlace}
+use Rattle.tree.specs.Seen.{placeIn, seenPlace}
 use Rattle.tree.specs.declared.Place.{Place}
-use Rattle.tree.specs.declared.Place.the-variants.{Word, Double, Pred}
+use Rattle.tree.specs.declared.Place.the-variants.{Word, Half, Double, Pred}
 use Rattle.starts.specs.Without.{without, joined, class-without, number-without, dotted-without}
 use Rattle.scan.specs.Registers.{registerOf}
 use Rattle.scan.specs.RegisterLaws.{register-complete}
@@ -30,9 +32,10 @@ use Rattle.scan.specs.declared.Register as scanned
 use Rattle.scan.specs.declared.Register.the-variants.{Got, Bad}
 
 abbrev pub inFile : Place → Bool
-inFile (Word w) = ltb (w .0) wordCount
-inFile (Double d) = ltb (d .0) doubleCount
-inFile (Pred p) = ltb (p .0) predCount
+inFile (Word w) = isInside (rules.reg Words (w .0))
+inFile (Half h) = isInside (rules.reg Halves (h .0))
+inFile (Double d) = isInside (rules.reg Doubles (d .0))
+inFile (Pred p) = isInside (rules.reg Preds (p .0))
 
 abbrev pub isOver : scanned.Register → Bool
 isOver (Got p n) = not (inFile p)
@@ -69,15 +72,17 @@ after-zero (x ∷ rs) = ap₂ (λ (k : ℕ) (l : List Register). (k, x .1) ∷ l
 plain-then : {a : List ℕ} (w : List ℕ) (rs : List Register) → All plain a → Finds w rs → Finds (a ++ w) (after (length a) rs)
 plain-then {a} w rs h f p q o = skip p w h ∙ f (p + length a) q (subst (λ (l : List Register). FirstOutside l q) (after-after p (length a) rs) o)
 
+placed-in-file : (f : File) (n : ℕ) → inFile (placeIn f n) ≡ isInside (rules.reg f n)
+placed-in-file Words n = refl
+placed-in-file Halves n = refl
+placed-in-file Doubles n = refl
+placed-in-file Preds n = refl
+
 in-file : (x : rules.Place) → Inside x → inFile (seenPlace x) ≡ true
-in-file (rules.word n) h = lt-ltb n wordCount h
-in-file (rules.double n) h = lt-ltb n doubleCount h
-in-file (rules.pred n) h = lt-ltb n predCount h
+in-file (rules.reg f n) h = placed-in-file f n ∙ lt-ltb n (countOf f) h
 
 not-in-file : (x : rules.Place) → fileSize x ≤ numberOf x → inFile (seenPlace x) ≡ false
-not-in-file (rules.word n) h = le-ltb n wordCount h
-not-in-file (rules.double n) h = le-ltb n doubleCount h
-not-in-file (rules.pred n) h = le-ltb n predCount h
+not-in-file (rules.reg f n) h = placed-in-file f n ∙ le-ltb n (countOf f) h
 
 one : (x : rules.Place) (n p : ℕ) {tail : List ℕ} (w : List ℕ) → registerOf (37 ∷ (tail ++ w)) ≡ Got (seenPlace x) n → All plain tail
     → overAt p (37 ∷ (tail ++ w)) ≡ cond (not (inFile (seenPlace x))) p (overAt (p + suc (length tail)) w)
@@ -87,9 +92,10 @@ one x n p {tail} w e h =
     ∙ ap (cond (not (inFile (seenPlace x))) p) (skip (suc p) w h ∙ ap (λ (k : ℕ). overAt k w) (omega arith))
 
 at-register : (x : rules.Place) (p : ℕ) (w : List ℕ) → GoodPlace x → Stops isDigit w → overAt p (registerText x ++ w) ≡ cond (not (inFile (seenPlace x))) p (overAt (p + length (registerText x)) w)
-at-register (rules.word n) p w g z = one (rules.word n) _ p w (register-complete (rules.word n) w g z) (more refl (number-without 37 refl n))
-at-register (rules.double n) p w g z = one (rules.double n) _ p w (register-complete (rules.double n) w g z) (more refl (more refl (number-without 37 refl n)))
-at-register (rules.pred n) p w g z = one (rules.pred n) _ p w (register-complete (rules.pred n) w g z) (more refl (number-without 37 refl n))
+at-register (rules.reg Words n) p w g z = one (rules.reg Words n) _ p w (register-complete (rules.reg Words n) w g z) (more refl (number-without 37 refl n))
+at-register (rules.reg Halves n) p w g z = one (rules.reg Halves n) _ p w (register-complete (rules.reg Halves n) w g z) (more refl (more refl (number-without 37 refl n)))
+at-register (rules.reg Doubles n) p w g z = one (rules.reg Doubles n) _ p w (register-complete (rules.reg Doubles n) w g z) (more refl (more refl (number-without 37 refl n)))
+at-register (rules.reg Preds n) p w g z = one (rules.reg Preds n) _ p w (register-complete (rules.reg Preds n) w g z) (more refl (number-without 37 refl n))
 
 some-first : {rs : List Register} {q : ℕ} → FirstOutside rs q → 0 < length rs
 some-first (here h) = omega arith

@@ -10,7 +10,8 @@ use lib.Seq.{drop-append-seam, drop-at}
 use Rattle.signs.specs.Bytes.{isBlank, isNameByte, All}
 use Rattle.signs.specs.Bytes.All.{none, more}
 use Rattle.signs.specs.Text.{bytes}
-use Rattle.record.specs.Registers.{Place, word, double, pred}
+use Rattle.record.specs.declared.File.the-variants.{Words, Halves, Doubles, Preds}
+use Rattle.record.specs.Registers.{Place, reg}
 use Rattle.rules.specs.Shape.{Name, dotted, headText, digit, registerText, Spot, at, nothing, spotText, OperandTree, pair, operandText}
 use Rattle.rules.specs.Grammar.{LineTree, Good, lineText, GuardTree, unguarded, guarded, guardTreeText, Divided, dividedText, namesOf, GoodName, GoodNames, GoodGuard, GoodOperand, GoodOthers}
 use Rattle.rules.specs.BytePlaces.{guardStart, headStart, nameStart, operandsStart, toNextOperand, operandStart}
@@ -213,9 +214,10 @@ operand-start-is t k g m =
 -- ==== the second place of a pair: no `|` stands before the first pair's
 
 register-bars : (p : Place) → All notBar (registerText p)
-register-bars (word n) = more refl (more refl (number-without 124 refl n))
-register-bars (double n) = more refl (more refl (more refl (number-without 124 refl n)))
-register-bars (pred n) = more refl (more refl (number-without 124 refl n))
+register-bars (reg Words n) = more refl (more refl (number-without 124 refl n))
+register-bars (reg Halves n) = more refl (more refl (more refl (number-without 124 refl n)))
+register-bars (reg Doubles n) = more refl (more refl (more refl (number-without 124 refl n)))
+register-bars (reg Preds n) = more refl (more refl (number-without 124 refl n))
 
 spot-bars : (p : Spot) → All notBar (spotText p)
 spot-bars (at p) = register-bars p

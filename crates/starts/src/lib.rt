@@ -152,6 +152,7 @@ fn in_file(p: Place) -> bool
 {
     match p {
         Place::Word(w) => w.0 < record::WORDS,
+        Place::Half(h) => h.0 < record::HALVES,
         Place::Double(d) => d.0 < record::DOUBLES,
         Place::Pred(q) => q.0 < record::PREDS,
     }

@@ -3,12 +3,14 @@ use Prim.Native.Nat.{ℕ}
 use mathlib.Core.List.{List, _++_, map}
 use lib.ListN.{length, take, replicate}
 use Rattle.base.specs.Pack.{codeOf}
+use Rattle.record.specs.declared.File.{File}
+use Rattle.record.specs.declared.File.the-variants.{Words, Halves, Doubles, Preds}
 use Rattle.record.specs.Registers as files
 use Rattle.rules.specs.Shape.{Name, OperandTree, inverted, pair, bare, part}
 use Rattle.rules.specs.Shape as shape
 use Rattle.rules.specs.Grammar.{LineTree, GuardTree, unguarded, guarded, namesOf, operandsOf}
 use Rattle.tree.specs.declared.Place.{Place}
-use Rattle.tree.specs.declared.Place.the-variants.{Word, Double, Pred}
+use Rattle.tree.specs.declared.Place.the-variants.{Word, Half, Double, Pred}
 use Rattle.tree.specs.declared.Spot.{Spot}
 use Rattle.tree.specs.declared.Spot.the-variants.{At, Nothing}
 use Rattle.tree.specs.declared.Tree.{Tree}
@@ -20,10 +22,14 @@ use Rattle.tree.specs.declared.Guarding.{Guarding}
 use Rattle.tree.specs.declared.Guarding.the-variants.{Unguarded, Guarded}
 use Rattle.tree.specs.declared.Parts.{Parts}
 
+abbrev pub placeIn : File → ℕ → Place
+placeIn Words n = Word (record { 0 = n })
+placeIn Halves n = Half (record { 0 = n })
+placeIn Doubles n = Double (record { 0 = n })
+placeIn Preds n = Pred (record { 0 = n })
+
 abbrev pub seenPlace : files.Place → Place
-seenPlace (files.word n) = Word (record { 0 = n })
-seenPlace (files.double n) = Double (record { 0 = n })
-seenPlace (files.pred n) = Pred (record { 0 = n })
+seenPlace (files.reg file n) = placeIn file n
 
 abbrev pub seenSpot : shape.Spot → Spot
 seenSpot (shape.at p) = At (seenPlace p)

@@ -1,11 +1,13 @@
 // What the reader keeps of a line that has the shape: its guard, the names of its head, its operands.
 use record::Double;
+use record::Half;
 use record::Pred;
 use record::Word;
 
-// `%r`, `%rd` or `%p` and a number.
+// `%r`, `%rs`, `%rd` or `%p` and a number.
 pub enum Place {
     Word(Word),
+    Half(Half),
     Double(Double),
     Pred(Pred),
 }

@@ -29,7 +29,7 @@ digits k b = cond (eqb b 48) (Register k read.Whole) (cond (isDigit b) (Register
 unfoldable pub register : Role → Read → ℕ → State
 register k read.Nothing b = cond (eqb b 37) (Register k read.Sign) Wrong
 register k read.Sign b = cond (eqb b 112) (Register k read.File) (cond (eqb b 114) (Register k read.Wide) Wrong)
-register k read.Wide b = cond (eqb b 100) (Register k read.File) (digits k b)
+register k read.Wide b = cond (eqb b 100) (Register k read.File) (cond (eqb b 115) (Register k read.File) (digits k b))
 register k read.File b = digits k b
 register k read.One b = cond (isDigit b) (Register k read.Two) (follow k b)
 register k read.Two b = cond (isDigit b) (Register k read.Whole) (follow k b)

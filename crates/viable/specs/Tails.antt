@@ -9,8 +9,10 @@ use borrow.Author.Tests.{eqb-true, eqb-false}
 use Rattle.signs.specs.Bytes.{isBlank, isDigit, isNameByte, All, Some}
 use Rattle.signs.specs.Bytes.All.{none, more}
 use Rattle.signs.specs.Text.{bytes}
-use Rattle.record.specs.Registers.{Place, word, double, pred}
-use Rattle.rules.specs.Shape.{dotted, numberText, registerText, at, nothing, spotText, inverted, pair, bare, part, operandText, guardText}
+use Rattle.record.specs.declared.File.{File}
+use Rattle.record.specs.declared.File.the-variants.{Words, Halves, Doubles, Preds}
+use Rattle.record.specs.Registers.{Place, reg}
+use Rattle.rules.specs.Shape.{dotted, numberText, fileText, registerText, at, nothing, spotText, inverted, pair, bare, part, operandText, guardText}
 use Rattle.rules.specs.Grammar as grammar
 use Rattle.rules.specs.Grammar.{unguarded, guarded, guardTreeText, Divided, dividedText, GoodPlace, GoodName, GoodNames, GoodSpot, GoodOperand, GoodGuard, GoodOthers}
 use Rattle.rules.specs.BytePlaces.{ShapedLine}
@@ -255,20 +257,15 @@ follow-back role.Last b w = ends-back b w
 
 -- ---- registers
 
-as-pred : {K : Texts} {w : List ℕ} → Then NumberT K w → Then RegisterT K (37 ∷ 112 ∷ w)
-as-pred = put (bytes "%p") (inside pred (bytes "%p") (λ n g. g) (λ n. refl))
-
-as-word : {K : Texts} {w : List ℕ} → Then NumberT K w → Then RegisterT K (37 ∷ 114 ∷ w)
-as-word = put (bytes "%r") (inside word (bytes "%r") (λ n g. g) (λ n. refl))
-
-as-double : {K : Texts} {w : List ℕ} → Then NumberT K w → Then RegisterT K (37 ∷ 114 ∷ 100 ∷ w)
-as-double = put (bytes "%rd") (inside double (bytes "%rd") (λ n g. g) (λ n. refl))
+in-file : (f : File) {K : Texts} {w : List ℕ} → Then NumberT K w → Then RegisterT K (fileText f ++ w)
+in-file f = put (fileText f) (inside (reg f) (fileText f) (λ n g. g) (λ n. refl))
 
 register-back : (k : Role) (d : Read) (b : ℕ) (w : List ℕ) → Back (Within (After k) d) (register k d b) b w
 unfolding register
 register-back k read.Nothing b w = byte 37 (record { back = λ r. r }) wrong
-register-back k read.Sign b w = byte 112 (record { back = as-pred }) (byte 114 (record { back = λ r. r }) wrong)
-register-back k read.Wide b w = byte 100 (record { back = as-double }) (record { back = λ r. as-word (digits-back k b w .back r) })
+register-back k read.Sign b w = byte 112 (record { back = in-file Preds }) (byte 114 (record { back = λ r. r }) wrong)
+register-back k read.Wide b w =
+    byte 100 (record { back = in-file Doubles }) (byte 115 (record { back = in-file Halves }) (record { back = λ r. in-file Words (digits-back k b w .back r) }))
 register-back k read.File b w = digits-back k b w
 register-back k read.One b w =
     test (isDigit b) (λ e. record { back = λ r a z h. let d = digit-at b e in subst (λ (x : ℕ). Then NumberT (After k) ((a + 48) ∷ x ∷ w)) (d .is) (r a (d .value) z h (d .small)) })

@@ -10,7 +10,8 @@ use borrow.Author.Tests.{eqb-true, ne-eqb, ltb-true, ltb-false}
 use Rattle.signs.specs.Bytes.{isBlank, isDigit, isNameByte, All, Some}
 use Rattle.signs.specs.Bytes.All.{none, more}
 use Rattle.signs.specs.Text.{bytes}
-use Rattle.record.specs.Registers.{Place, word, double, pred}
+use Rattle.record.specs.declared.File.the-variants.{Words, Halves, Doubles, Preds}
+use Rattle.record.specs.Registers.{Place, reg}
 use Rattle.rules.specs.Shape.{Name as Word, dotted, digit, numberText, registerText, Spot, at, nothing, spotText, OperandTree, inverted, pair, bare, part, operandText}
 use Rattle.rules.specs.Grammar.{GuardTree, unguarded, guarded, guardTreeText, Divided, dividedText, LineTree, lineText, Good, GoodPlace, GoodName, GoodNames, GoodSpot, GoodOperand, GoodGuard, GoodOthers, numberLimit}
 use Rattle.rules.specs.BytePlaces.{ShapedLine}
@@ -135,12 +136,13 @@ two-wider : (k : Role) (r : List ℕ) → Ends (Register k read.Whole) r → End
 unfolding step register
 two-wider k = wider (Register k read.Whole) (Register k read.Two) (register-not-end k read.Whole) (λ b. first-test (isDigit b) (follow k b) (Register k read.Whole) (follow k b) (digit-ends k b) (same refl))
 
--- `d` is no digit
+-- `d` and `s` are no digits
 wide-wider : (k : Role) (r : List ℕ) → Ends (Register k read.File) r → Ends (Register k read.Wide) r
 unfolding step register digits
 wide-wider k =
     wider (Register k read.File) (Register k read.Wide) (register-not-end k read.File)
-    (λ b. first-test (eqb b 100) (digits k b) (Register k read.File) (digits k b) (λ e. ap (digits k) (eqb-true b 100 e)) (same refl))
+    (λ b. first-test (eqb b 100) (digits k b) (Register k read.File) (cond (eqb b 115) (Register k read.File) (digits k b)) (λ e. ap (digits k) (eqb-true b 100 e))
+    (first-test (eqb b 115) (digits k b) (Register k read.File) (digits k b) (λ e. ap (digits k) (eqb-true b 115 e)) (same refl)))
 
 first-wider : (r : List ℕ) → Ends (Register role.Last read.Whole) r → Ends (Register role.First read.Whole) r
 unfolding step register follow ends
@@ -192,9 +194,10 @@ module _ (k : Role) where
 
 register-through : (q : State) (k : Role) → step q 37 ≡ Register k read.Sign → (p : Place) → GoodPlace p → (r : List ℕ) → Ends (Register k read.Whole) r → Ends q (registerText p ++ r)
 unfolding step register
-register-through q k s (word n) g r e = on q (Register k read.Sign) 37 (114 ∷ (numberText n ++ r)) s (wide-wider k (numberText n ++ r) (number-through k r e n g))
-register-through q k s (double n) g r e = on q (Register k read.Sign) 37 (114 ∷ 100 ∷ (numberText n ++ r)) s (number-through k r e n g)
-register-through q k s (pred n) g r e = on q (Register k read.Sign) 37 (112 ∷ (numberText n ++ r)) s (number-through k r e n g)
+register-through q k s (reg Words n) g r e = on q (Register k read.Sign) 37 (114 ∷ (numberText n ++ r)) s (wide-wider k (numberText n ++ r) (number-through k r e n g))
+register-through q k s (reg Halves n) g r e = on q (Register k read.Sign) 37 (114 ∷ 115 ∷ (numberText n ++ r)) s (number-through k r e n g)
+register-through q k s (reg Doubles n) g r e = on q (Register k read.Sign) 37 (114 ∷ 100 ∷ (numberText n ++ r)) s (number-through k r e n g)
+register-through q k s (reg Preds n) g r e = on q (Register k read.Sign) 37 (112 ∷ (numberText n ++ r)) s (number-through k r e n g)
 
 spot-through : (p : Spot) → GoodSpot p → (r : List ℕ) → Ends (Register role.Last read.Whole) r → Ends Bar (spotText p ++ r)
 unfolding step register

@@ -110,7 +110,11 @@ fn register(k: Role, d: Read, b: u8) -> State
             State::Register(k, Read::File),
             pick(b == b'r', State::Register(k, Read::Wide), State::Wrong),
         ),
-        Read::Wide => pick(b == b'd', State::Register(k, Read::File), digits(k, b)),
+        Read::Wide => pick(
+            b == b'd',
+            State::Register(k, Read::File),
+            pick(b == b's', State::Register(k, Read::File), digits(k, b)),
+        ),
         Read::File => digits(k, b),
         Read::One => pick(is_digit(b), State::Register(k, Read::Two), follow(k, b)),
         Read::Two => pick(is_digit(b), State::Register(k, Read::Whole), follow(k, b)),

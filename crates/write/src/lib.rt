@@ -11,6 +11,7 @@ use record::Digits;
 use record::Double;
 use record::Form;
 use record::Guard;
+use record::Half;
 use record::Instruction;
 use record::LaneArith;
 use record::LaneWidth;
@@ -31,7 +32,8 @@ ghost use mathlib.Core.List.{_++_};
 ghost use Prim.Native.Nat.{_+_, _*_, _^_, _≤_, _<_};
 ghost use lib.ListN.{length};
 ghost use Rattle.base.specs.Pack.{radix, spelled, NumberSpells};
-ghost use Rattle.record.specs.Registers.{operandPlace, double, r, p};
+ghost use Rattle.record.specs.Registers.{reg, operandPlace, r, p};
+ghost use Rattle.record.specs.declared.File.the-variants.{Halves, Doubles};
 ghost use Rattle.record.specs.declared.Instruction.the-variants.{Arithmetic, Vset, VsetLanes, ArithmeticLanes, Set, Setp, Selp, Slct};
 ghost use Rattle.rules.specs.Shape.{bare, part, numberText, registerText, headText, operandText};
 ghost use Rattle.rules.specs.Names.{formOp2, combinationNames, headNames, selectorName};
@@ -89,8 +91,14 @@ fn word_text(w: Word) -> u64
     before(b'%', before(b'r', number_text(w.0)))
 }
 
+fn half_text(h: Half) -> u64
+    ensures { λ m. ⌜ NumberSpells 6 m (registerText (reg Halves (h .0))) ⌝ }
+{
+    before(b'%', before(b'r', before(b's', number_text(h.0))))
+}
+
 fn double_text(d: Double) -> u64
-    ensures { λ m. ⌜ NumberSpells 6 m (registerText (double (d .0))) ⌝ }
+    ensures { λ m. ⌜ NumberSpells 6 m (registerText (reg Doubles (d .0))) ⌝ }
 {
     before(b'%', before(b'r', before(b'd', number_text(d.0))))
 }
@@ -106,6 +114,7 @@ fn operand_text(o: Operand) -> u64
 {
     match o {
         Operand::Word(w) => word_text(w),
+        Operand::Half(h) => half_text(h),
         Operand::Double(d) => double_text(d),
     }
 }

@@ -25,18 +25,21 @@ same-length-2 c = search needs
 same-length-3 : tie.Need-same-length-3
 same-length-3 c = search needs
 
+same-length-4 : tie.Need-same-length-4
+same-length-4 c = search needs
+
 returns : tie.Need-returns
 returns c = search needs
 
 pub execute-spec : {M : Type 1} → statement M
 execute-spec =
-    tie.close (tie.spec execute-requires same-length same-length-2 same-length-3 returns)
+    tie.close (tie.spec execute-requires same-length same-length-2 same-length-3 same-length-4 returns)
 
 -- no two outcomes, answers and files left, satisfy the contract as it stands in src/lib.rt
 pub execute-one-outcome :
-    (κs : Lfts 3) (a : Dens κs kinds.ps) (x y : Executed) (s t : AtExit (endedOf 3 kinds.ps kinds.r) κs)
+    (κs : Lfts 4) (a : Dens κs kinds.ps) (x y : Executed) (s t : AtExit (endedOf 4 kinds.ps kinds.r) κs)
     → reads.Post κs a x s → reads.Post κs a y t
-    → (x ≡ y) × (now (s .1 .0) ≡ now (t .1 .0)) × (now (s .1 .1 .0) ≡ now (t .1 .1 .0)) × (now (s .1 .1 .1 .0) ≡ now (t .1 .1 .1 .0))
+    → (x ≡ y) × (now (s .1 .0) ≡ now (t .1 .0)) × (now (s .1 .1 .0) ≡ now (t .1 .1 .0)) × (now (s .1 .1 .1 .0) ≡ now (t .1 .1 .1 .0)) × (now (s .1 .1 .1 .1 .0) ≡ now (t .1 .1 .1 .1 .0))
 execute-one-outcome κs a x y s t p q =
     let z = one-outcome p q in
-    (answers-one x y (ap (λ (o : Outcome). o .answer) z), ap (λ (o : Outcome). o .files .words) z, ap (λ (o : Outcome). o .files .doubles) z, ap (λ (o : Outcome). o .files .preds) z)
+    (answers-one x y (ap (λ (o : Outcome). o .answer) z), ap (λ (o : Outcome). o .files .words) z, ap (λ (o : Outcome). o .files .halves) z, ap (λ (o : Outcome). o .files .doubles) z, ap (λ (o : Outcome). o .files .preds) z)

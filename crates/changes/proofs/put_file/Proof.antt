@@ -7,16 +7,15 @@ use lib.ListN.{length}
 use Rattle.record.specs.Registers.{files}
 use Rattle.text.specs.Buffer.{buffer, Puts, same, _then_}
 use Rattle.changes.specs.Changes.{changesText}
-use Rattle.changes.specs.Registers.{placeOf}
 use Rattle.changes.specs.Changes.{changesText}
 use Rattle.changes.proofs.put_file.Statement.{statement}
 use Rattle.changes.proofs.put_file.Tie as tie
 
 abbrev Inv-loop : tie.InvT-loop
-Inv-loop out₀ at file words doubles preds size next₀ k₀ out next k = (k ≤ size) × (length out ≡ length out₀) × Puts (buffer out₀ at) (changesText (placeOf file) k (files words doubles preds)) (buffer out next)
+Inv-loop out₀ at file words halves doubles preds size next₀ k₀ out next k = (k ≤ size) × (length out ≡ length out₀) × Puts (buffer out₀ at) (changesText file k (files words halves doubles preds)) (buffer out next)
 
 abbrev μ-loop : tie.MeasureT-loop
-μ-loop out₀ at file words doubles preds size next₀ k₀ out next k = size - k
+μ-loop out₀ at file words halves doubles preds size next₀ k₀ out next k = size - k
 
 count-requires : tie.Need-count-requires Inv-loop μ-loop
 count-requires c κs = search needs

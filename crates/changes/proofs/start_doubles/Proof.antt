@@ -11,14 +11,15 @@ use mathlib.Core.Path.{_≡_, refl}
 use mathlib.Core.List.{List, _++_}
 use lib.ListN.{drop, replicate}
 use Rattle.signs.specs.Lists.{tab}
-use Rattle.record.specs.Registers.{double}
+use Rattle.record.specs.declared.File.the-variants.{Doubles}
+use Rattle.record.specs.Registers.{reg}
 use Rattle.changes.specs.Changes.{startValue, startFiles}
 use Rattle.changes.proofs.Laws.{set-more, set-all}
 use Rattle.changes.proofs.start_doubles.Statement.{statement}
 use Rattle.changes.proofs.start_doubles.Tie as tie
 
 abbrev Inv-loop : tie.InvT-loop
-Inv-loop doubles₀ k₀ doubles k = (k ≤ 32) × (doubles ≡ tab k (λ n. startValue (double n)) ++ drop k (replicate 32 0))
+Inv-loop doubles₀ k₀ doubles k = (k ≤ 32) × (doubles ≡ tab k (λ n. startValue (reg Doubles n)) ++ drop k (replicate 32 0))
 
 abbrev μ-loop : tie.MeasureT-loop
 μ-loop doubles₀ k₀ doubles k = 32 - k
@@ -39,12 +40,12 @@ loop-less : tie.Need-loop-less Inv-loop μ-loop
 loop-less c = search needs
 
 loop-again : tie.Need-loop-again Inv-loop μ-loop
-loop-again c = (search needs, set-more (λ n. startValue (double n)) (replicate 32 0) _ _ (omega arith) (c .before .loop .inv .1))
+loop-again c = (search needs, set-more (λ n. startValue (reg Doubles n)) (replicate 32 0) _ _ (omega arith) (c .before .loop .inv .1))
 
 returns : tie.Need-returns Inv-loop μ-loop
 unfolding startFiles
 returns c = let e : c .before .loop .k ≡ 32 = omega arith in
-    rw e at (set-all (λ n. startValue (double n)) (replicate 32 0) _ (c .before .loop .k) (omega arith) (c .before .loop .inv .1))
+    rw e at (set-all (λ n. startValue (reg Doubles n)) (replicate 32 0) _ (c .before .loop .k) (omega arith) (c .before .loop .inv .1))
 
 pub start-doubles-spec : {M : Type 1} → statement M
 start-doubles-spec =

@@ -36,17 +36,17 @@ same-length-2 c = search needs
 same-length-3 : tie.Need-same-length-3
 same-length-3 c = search needs
 
+same-length-4 : tie.Need-same-length-4
+same-length-4 c = search needs
+
 returns : tie.Need-returns
 returns c =
     ends-refused _ _ _
-    (simp (c .before .executing .ensures, c .before .before .preds-fit .ensures, c .before .before .before .before .sizes-fit .ensures, c .before .before .before .before .before .before .before .before .legal .ensures))
+    (simp (c .before .executing .ensures, c .before .before .preds-fit .ensures, c .before .before .before .before .sizes-fit .ensures, c .before .before .before .before .before .before .before .before .before .legal .ensures))
     (c .if1 .taken)
 
 guard-holds-requires : tie.Need-guard-holds-requires
 guard-holds-requires c κs = search needs
-
-same-length-4 : tie.Need-same-length-4
-same-length-4 c = search needs
 
 same-length-5 : tie.Need-same-length-5
 same-length-5 c = search needs
@@ -54,10 +54,16 @@ same-length-5 c = search needs
 same-length-6 : tie.Need-same-length-6
 same-length-6 c = search needs
 
+same-length-7 : tie.Need-same-length-7
+same-length-7 c = search needs
+
+same-length-8 : tie.Need-same-length-8
+same-length-8 c = search needs
+
 returns-2 : tie.Need-returns-2
 returns-2 c =
     ends-skipped _ _ _
-    (simp (c .before .before .before .before .executing .ensures, c .before .before .before .before .before .preds-fit .ensures, c .before .before .before .before .before .before .before .sizes-fit .ensures, c .before .before .before .before .before .before .before .before .before .before .before .legal .ensures))
+    (simp (c .before .before .before .before .executing .ensures, c .before .before .before .before .before .preds-fit .ensures, c .before .before .before .before .before .before .before .sizes-fit .ensures, c .before .before .before .before .before .before .before .before .before .before .before .before .legal .ensures))
     (c .before .before .before .if1 .left)
     (failed (c .before .guard-holds .ensures) (c .if2 .taken))
 
@@ -67,22 +73,25 @@ write-of-requires c κs = search needs
 put-requires : tie.Need-put-requires
 put-requires c κs = search needs
 
-same-length-7 : tie.Need-same-length-7
-same-length-7 c = search needs
-
-same-length-8 : tie.Need-same-length-8
-same-length-8 c = search needs
-
 same-length-9 : tie.Need-same-length-9
 same-length-9 c = search needs
+
+same-length-10 : tie.Need-same-length-10
+same-length-10 c = search needs
+
+same-length-11 : tie.Need-same-length-11
+same-length-11 c = search needs
+
+same-length-12 : tie.Need-same-length-12
+same-length-12 c = search needs
 
 returns-3 : tie.Need-returns-3
 returns-3 c =
     ends-done _ _ _
-    (simp (c .before .before .before .before .before .before .before .before .before .before .before .before .before .before .before .before .before .before .executing .ensures, c .before .before .before .before .before .before .before .before .before .before .before .before .before .before .before .before .before .before .before .preds-fit .ensures, c .before .before .before .before .before .before .before .before .before .before .before .before .before .before .before .before .before .before .before .before .before .sizes-fit .ensures, c .before .before .before .before .before .before .before .before .before .before .before .before .before .before .before .before .before .before .before .before .before .before .before .before .before .legal .ensures))
-    (c .before .before .before .before .before .before .before .before .before .before .before .before .before .before .before .before .before .if1 .left)
-    (passed (c .before .before .before .before .before .before .before .before .before .before .before .before .before .before .before .guard-holds .ensures) (c .before .before .before .before .before .before .before .before .before .before .before .before .before .before .if2 .left))
-    (rw (c .before .before .before .before .before .before .put .ensures, c .before .before .before .before .before .before .before .before .before .before .write-of .ensures) (instruction-written _ _))
+    (simp (c .before .before .before .before .before .before .before .before .before .before .before .before .before .before .before .before .before .before .before .before .before .before .executing .ensures, c .before .before .before .before .before .before .before .before .before .before .before .before .before .before .before .before .before .before .before .before .before .before .before .preds-fit .ensures, c .before .before .before .before .before .before .before .before .before .before .before .before .before .before .before .before .before .before .before .before .before .before .before .before .before .sizes-fit .ensures, c .before .before .before .before .before .before .before .before .before .before .before .before .before .before .before .before .before .before .before .before .before .before .before .before .before .before .before .before .before .before .legal .ensures))
+    (c .before .before .before .before .before .before .before .before .before .before .before .before .before .before .before .before .before .before .before .before .before .if1 .left)
+    (passed (c .before .before .before .before .before .before .before .before .before .before .before .before .before .before .before .before .before .before .before .guard-holds .ensures) (c .before .before .before .before .before .before .before .before .before .before .before .before .before .before .before .before .before .before .if2 .left))
+    (rw (c .before .before .before .before .before .before .before .before .put .ensures, c .before .before .before .before .before .before .before .before .before .before .before .before .before .write-of .ensures) (instruction-written _ _))
 
 pub execute-spec : {M : Type 1} → statement M
 execute-spec =
@@ -95,24 +104,27 @@ execute-spec =
     same-length
     same-length-2
     same-length-3
+    same-length-4
     returns
     guard-holds-requires
-    same-length-4
     same-length-5
     same-length-6
+    same-length-7
+    same-length-8
     returns-2
     write-of-requires
     put-requires
-    same-length-7
-    same-length-8
     same-length-9
+    same-length-10
+    same-length-11
+    same-length-12
     returns-3)
 
 -- no two outcomes, answers and files left, satisfy the contract as it stands in src/lib.rt
 pub execute-one-outcome :
-    (κs : Lfts 3) (a : Dens κs kinds.ps) (x y : Executed) (s t : AtExit (endedOf 3 kinds.ps kinds.r) κs)
+    (κs : Lfts 4) (a : Dens κs kinds.ps) (x y : Executed) (s t : AtExit (endedOf 4 kinds.ps kinds.r) κs)
     → reads.Post κs a x s → reads.Post κs a y t
-    → (x ≡ y) × (now (s .1 .0) ≡ now (t .1 .0)) × (now (s .1 .1 .0) ≡ now (t .1 .1 .0)) × (now (s .1 .1 .1 .0) ≡ now (t .1 .1 .1 .0))
+    → (x ≡ y) × (now (s .1 .0) ≡ now (t .1 .0)) × (now (s .1 .1 .0) ≡ now (t .1 .1 .0)) × (now (s .1 .1 .1 .0) ≡ now (t .1 .1 .1 .0)) × (now (s .1 .1 .1 .1 .0) ≡ now (t .1 .1 .1 .1 .0))
 execute-one-outcome κs a x y s t p q =
     let z = one-outcome p q in
-    (answers-one x y (ap (λ (o : Outcome). o .answer) z), ap (λ (o : Outcome). o .files .words) z, ap (λ (o : Outcome). o .files .doubles) z, ap (λ (o : Outcome). o .files .preds) z)
+    (answers-one x y (ap (λ (o : Outcome). o .answer) z), ap (λ (o : Outcome). o .files .words) z, ap (λ (o : Outcome). o .files .halves) z, ap (λ (o : Outcome). o .files .doubles) z, ap (λ (o : Outcome). o .files .preds) z)

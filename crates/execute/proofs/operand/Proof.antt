@@ -14,6 +14,18 @@ widened-requires c κs = search needs
 enum-known-o-2 : tie.Need-enum-known-o-2
 enum-known-o-2 c = search needs
 
+half-at-requires : tie.Need-half-at-requires
+half-at-requires c κs = search needs
+
+cast-widened : tie.Need-cast-widened
+cast-widened c = search needs
+
+widened-requires-2 : tie.Need-widened-requires-2
+widened-requires-2 c κs = search needs
+
+enum-known-o-3 : tie.Need-enum-known-o-3
+enum-known-o-3 c = search needs
+
 double-at-requires : tie.Need-double-at-requires
 double-at-requires c κs = search needs
 
@@ -28,8 +40,16 @@ returns c =
 returns-2 : tie.Need-returns-2
 returns-2 c =
     simp (
+      c .widened2 .ensures,
+      c .before .half-at .ensures,
+      c .before .before .before .o2 .given .1,
+    )
+
+returns-3 : tie.Need-returns-3
+returns-3 c =
+    simp (
       c .double-at .ensures,
-      c .before .before .o2 .given .1,
+      c .before .before .o3 .given .1,
     )
 
 pub operand-spec : {M : Type 1} → statement M
@@ -40,6 +60,11 @@ operand-spec =
     word-at-requires
     widened-requires
     enum-known-o-2
+    half-at-requires
+    cast-widened
+    widened-requires-2
+    enum-known-o-3
     double-at-requires
     returns
-    returns-2)
+    returns-2
+    returns-3)

@@ -13,9 +13,12 @@ cast-result-2 c = search needs
 cast-result-3 : tie.Need-cast-result-3
 cast-result-3 c = search needs
 
+cast-result-4 : tie.Need-cast-result-4
+cast-result-4 c = search needs
+
 returns : tie.Need-returns
 unfolding sizesFit
 returns c = refl
 
 pub sizes-fit-spec : {M : Type 1} → statement M
-sizes-fit-spec = tie.close (tie.spec cast-result cast-result-2 cast-result-3 returns)
+sizes-fit-spec = tie.close (tie.spec cast-result cast-result-2 cast-result-3 cast-result-4 returns)

@@ -1,4 +1,4 @@
-use Rattle.rules.specs.Executing.{testOf}
+use Rattle.execute.specs.Mirror.{testIn}
 use borrow.Author.Needs.{needs}
 use Rattle.execute.proofs.test.Statement.{statement}
 use Rattle.execute.proofs.test.Tie as tie
@@ -13,7 +13,7 @@ comparison-requires : tie.Need-comparison-requires
 comparison-requires c κs = search needs
 
 returns : tie.Need-returns
-unfolding testOf
+unfolding testIn
 returns c =
     simp (
       c .comparison .ensures,

@@ -11,6 +11,9 @@ enum-told c = search needs
 enum-told-2 : tie.Need-enum-told-2
 enum-told-2 c = search needs
 
+enum-told-3 : tie.Need-enum-told-3
+enum-told-3 c = search needs
+
 returns : tie.Need-returns
 returns c =
     simp
@@ -22,5 +25,10 @@ returns-2 c = search needs
 returns-3 : tie.Need-returns-3
 returns-3 c = search needs
 
+returns-4 : tie.Need-returns-4
+returns-4 c = search needs
+
 pub word-of-spec : {M : Type 1} → statement M
-word-of-spec = tie.close (tie.spec enum-known-p enum-told enum-told-2 returns returns-2 returns-3)
+word-of-spec =
+    tie.close
+    (tie.spec enum-known-p enum-told enum-told-2 enum-told-3 returns returns-2 returns-3 returns-4)

@@ -8,6 +8,9 @@ enum-told c = search needs
 enum-told-2 : tie.Need-enum-told-2
 enum-told-2 c = search needs
 
+enum-told-3 : tie.Need-enum-told-3
+enum-told-3 c = search needs
+
 enum-known-p : tie.Need-enum-known-p
 enum-known-p c = search needs
 
@@ -22,7 +25,14 @@ returns-2 c =
     (c .enum-told2 .given .1)
 
 returns-3 : tie.Need-returns-3
-returns-3 c = search needs
+returns-3 c =
+    simp
+    (c .enum-told3 .given .1)
+
+returns-4 : tie.Need-returns-4
+returns-4 c = search needs
 
 pub pred-in-spec : {M : Type 1} → statement M
-pred-in-spec = tie.close (tie.spec enum-told enum-told-2 enum-known-p returns returns-2 returns-3)
+pred-in-spec =
+    tie.close
+    (tie.spec enum-told enum-told-2 enum-told-3 enum-known-p returns returns-2 returns-3 returns-4)

@@ -15,20 +15,21 @@ use Rattle.report.proofs.print_lines.Statement.{statement}
 use Rattle.report.proofs.print_lines.Tie as tie
 
 abbrev Inv-loop : tie.InvT-loop
-Inv-loop listing from first words₀ doubles₀ preds₀ out₀ at₀ number₀ used₀ words doubles preds out at number used =
+Inv-loop listing from first words₀ halves₀ doubles₀ preds₀ out₀ at₀ number₀ used₀ words halves doubles preds out at number used =
     (used ≤ length out₀)
     × (length words ≡ length words₀)
+    × (length halves ≡ length halves₀)
     × (length doubles ≡ length doubles₀)
     × (length preds ≡ length preds₀)
     × (length out ≡ length out₀)
-    × Going listing from first (files words₀ doubles₀ preds₀) out₀ at number used (files words doubles preds) out
+    × Going listing from first (files words₀ halves₀ doubles₀ preds₀) out₀ at number used (files words halves doubles preds) out
     × (number < 2 ^ 64)
 
 abbrev μ-loop : tie.MeasureT-loop
-μ-loop listing from first words₀ doubles₀ preds₀ out₀ at₀ number₀ used₀ words doubles preds out at number used = length listing - at
+μ-loop listing from first words₀ halves₀ doubles₀ preds₀ out₀ at₀ number₀ used₀ words halves doubles preds out at number used = length listing - at
 
 loop-holds : tie.Need-loop-holds Inv-loop μ-loop
-loop-holds c = (search needs, search needs, search needs, search needs, search needs, begins _ _ _ _ _, search needs)
+loop-holds c = (search needs, search needs, search needs, search needs, search needs, search needs, begins _ _ _ _ _, search needs)
 
 sub-goes-on : tie.Need-sub-goes-on Inv-loop μ-loop
 sub-goes-on c = search needs
@@ -38,7 +39,7 @@ goes-on-requires c κs = search needs
 
 line-end-requires : tie.Need-line-end-requires Inv-loop μ-loop
 line-end-requires c κs =
-    let h = room-there (length (now (c .before .before .before .before .before .before .before .before .args .listing))) (c .before .before .loop .at) (length (c .before .before .loop .out) - c .before .before .loop .used) (c .before .goes-on .ensures) (c .if1 .taken) .0 in
+    let h = room-there (length (now (c .before .before .before .before .before .before .before .before .before .args .listing))) (c .before .before .loop .at) (length (c .before .before .loop .out) - c .before .before .loop .used) (c .before .goes-on .ensures) (c .if1 .taken) .0 in
     omega (arith, h)
 
 sub-put-line : tie.Need-sub-put-line Inv-loop μ-loop
@@ -61,18 +62,19 @@ next-place-requires c κs = search needs
 
 loop-less : tie.Need-loop-less Inv-loop μ-loop
 loop-less c =
-    let h = room-there (length (now (c .before .before .before .before .before .before .before .before .before .before .before .before .before .before .before .before .before .before .before .before .before .before .before .before .before .args .listing))) (c .before .before .before .before .before .before .before .before .before .before .before .before .before .before .before .before .before .before .before .loop .at) (length (c .before .before .before .before .before .before .before .before .before .before .before .before .before .before .before .before .before .before .before .loop .out) - c .before .before .before .before .before .before .before .before .before .before .before .before .before .before .before .before .before .before .before .loop .used) (c .before .before .before .before .before .before .before .before .before .before .before .before .before .before .before .before .before .before .goes-on .ensures) (c .before .before .before .before .before .before .before .before .before .before .before .before .before .before .before .before .before .if1 .taken) .0 in
-    let j : c .before .before .before .before .before .before .before .before .before .before .before .before .before .before .before .before .before .before .before .loop .at ≤ c .before .before .before .before .before .before .before .before .before .before .before .before .before .before .before .before .line-end .result = omega (arith, c .before .before .before .before .before .before .before .before .before .before .before .before .before .before .before .before .line-end .ensures .1) in
-    let k = further-on (length (now (c .before .before .before .before .before .before .before .before .before .before .before .before .before .before .before .before .before .before .before .before .before .before .before .before .before .args .listing))) (c .before .before .before .before .before .before .before .before .before .before .before .before .before .before .before .before .before .before .before .loop .at) (c .before .before .before .before .before .before .before .before .before .before .before .before .before .before .before .before .line-end .result) h j in
+    let h = room-there (length (now (c .before .before .before .before .before .before .before .before .before .before .before .before .before .before .before .before .before .before .before .before .before .before .before .before .before .before .before .before .before .args .listing))) (c .before .before .before .before .before .before .before .before .before .before .before .before .before .before .before .before .before .before .before .before .before .before .loop .at) (length (c .before .before .before .before .before .before .before .before .before .before .before .before .before .before .before .before .before .before .before .before .before .before .loop .out) - c .before .before .before .before .before .before .before .before .before .before .before .before .before .before .before .before .before .before .before .before .before .before .loop .used) (c .before .before .before .before .before .before .before .before .before .before .before .before .before .before .before .before .before .before .before .before .before .goes-on .ensures) (c .before .before .before .before .before .before .before .before .before .before .before .before .before .before .before .before .before .before .before .before .if1 .taken) .0 in
+    let j : c .before .before .before .before .before .before .before .before .before .before .before .before .before .before .before .before .before .before .before .before .before .before .loop .at ≤ c .before .before .before .before .before .before .before .before .before .before .before .before .before .before .before .before .before .before .before .line-end .result = omega (arith, c .before .before .before .before .before .before .before .before .before .before .before .before .before .before .before .before .before .before .before .line-end .ensures .1) in
+    let k = further-on (length (now (c .before .before .before .before .before .before .before .before .before .before .before .before .before .before .before .before .before .before .before .before .before .before .before .before .before .before .before .before .before .args .listing))) (c .before .before .before .before .before .before .before .before .before .before .before .before .before .before .before .before .before .before .before .before .before .before .loop .at) (c .before .before .before .before .before .before .before .before .before .before .before .before .before .before .before .before .before .before .before .line-end .result) h j in
     omega (arith, h, k, c .next-place .ensures)
 
 loop-again : tie.Need-loop-again Inv-loop μ-loop
 loop-again c =
-    let h = room-there (length (now (c .before .before .before .before .before .before .before .before .before .before .before .before .before .before .before .before .before .before .before .before .before .before .before .before .before .args .listing))) (c .before .before .before .before .before .before .before .before .before .before .before .before .before .before .before .before .before .before .before .loop .at) (length (c .before .before .before .before .before .before .before .before .before .before .before .before .before .before .before .before .before .before .before .loop .out) - c .before .before .before .before .before .before .before .before .before .before .before .before .before .before .before .before .before .before .before .loop .used) (c .before .before .before .before .before .before .before .before .before .before .before .before .before .before .before .before .before .before .goes-on .ensures) (c .before .before .before .before .before .before .before .before .before .before .before .before .before .before .before .before .before .if1 .taken) in
-    let e = c .before .before .before .before .before .before .before .before .before .before .before .before .before .before .before .before .line-end .ensures .1 in
-    let q : c .before .before .before .before .before .before .before .before .before .before .before .before .before .before .before .before .line-end .result - c .before .before .before .before .before .before .before .before .before .before .before .before .before .before .before .before .before .before .before .loop .at ≡ lineLength (drop (c .before .before .before .before .before .before .before .before .before .before .before .before .before .before .before .before .before .before .before .loop .at) (now (c .before .before .before .before .before .before .before .before .before .before .before .before .before .before .before .before .before .before .before .before .before .before .before .before .before .args .listing))) = omega (arith, e) in
-    let g = goes-on (c .before .before .before .before .before .before .before .before .before .before .before .before .before .before .before .before .before .before .before .loop .inv .5) (c .before .before .before .before .before .before .before .before .before .before .before .before .before .before .before .before .before .before .before .loop .inv .6) (h .0) (rw (c .before .before .before .before .before .before .before .before .before .before .before .before .before .before .before .before .before .before .before .loop .inv .4) at (h .1)) (c .before .before .before .before .before .before .before .before .before .before .before .before .before .before .before .before .before .before .before .before .before .before .before .before .before .pre) (rw q at (c .before .before .before .before .before .before .before .before .before .before .put-line .ensures)) in (
+    let h = room-there (length (now (c .before .before .before .before .before .before .before .before .before .before .before .before .before .before .before .before .before .before .before .before .before .before .before .before .before .before .before .before .before .args .listing))) (c .before .before .before .before .before .before .before .before .before .before .before .before .before .before .before .before .before .before .before .before .before .before .loop .at) (length (c .before .before .before .before .before .before .before .before .before .before .before .before .before .before .before .before .before .before .before .before .before .before .loop .out) - c .before .before .before .before .before .before .before .before .before .before .before .before .before .before .before .before .before .before .before .before .before .before .loop .used) (c .before .before .before .before .before .before .before .before .before .before .before .before .before .before .before .before .before .before .before .before .before .goes-on .ensures) (c .before .before .before .before .before .before .before .before .before .before .before .before .before .before .before .before .before .before .before .before .if1 .taken) in
+    let e = c .before .before .before .before .before .before .before .before .before .before .before .before .before .before .before .before .before .before .before .line-end .ensures .1 in
+    let q : c .before .before .before .before .before .before .before .before .before .before .before .before .before .before .before .before .before .before .before .line-end .result - c .before .before .before .before .before .before .before .before .before .before .before .before .before .before .before .before .before .before .before .before .before .before .loop .at ≡ lineLength (drop (c .before .before .before .before .before .before .before .before .before .before .before .before .before .before .before .before .before .before .before .before .before .before .loop .at) (now (c .before .before .before .before .before .before .before .before .before .before .before .before .before .before .before .before .before .before .before .before .before .before .before .before .before .before .before .before .before .args .listing))) = omega (arith, e) in
+    let g = goes-on (c .before .before .before .before .before .before .before .before .before .before .before .before .before .before .before .before .before .before .before .before .before .before .loop .inv .6) (c .before .before .before .before .before .before .before .before .before .before .before .before .before .before .before .before .before .before .before .before .before .before .loop .inv .7) (h .0) (rw (c .before .before .before .before .before .before .before .before .before .before .before .before .before .before .before .before .before .before .before .before .before .before .loop .inv .5) at (h .1)) (c .before .before .before .before .before .before .before .before .before .before .before .before .before .before .before .before .before .before .before .before .before .before .before .before .before .before .before .before .before .pre) (rw q at (c .before .before .before .before .before .before .before .before .before .before .before .before .put-line .ensures)) in (
       omega (arith, used-length g, g .fits),
+      search needs,
       search needs,
       search needs,
       search needs,
@@ -93,8 +95,11 @@ same-length-3 c = search needs
 same-length-4 : tie.Need-same-length-4 Inv-loop μ-loop
 same-length-4 c = search needs
 
+same-length-5 : tie.Need-same-length-5 Inv-loop μ-loop
+same-length-5 c = search needs
+
 returns : tie.Need-returns Inv-loop μ-loop
-returns c = stops (c .before .before .loop .inv .5) (sym (rw (c .before .before .loop .inv .4) at (c .before .goes-on .ensures)) ∙ c .if1 .left)
+returns c = stops (c .before .before .loop .inv .6) (sym (rw (c .before .before .loop .inv .5) at (c .before .goes-on .ensures)) ∙ c .if1 .left)
 
 pub print-lines-spec : {M : Type 1} → statement M
 print-lines-spec =
@@ -118,4 +123,5 @@ print-lines-spec =
     same-length-2
     same-length-3
     same-length-4
+    same-length-5
     returns)

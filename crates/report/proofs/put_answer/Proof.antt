@@ -12,7 +12,7 @@ enum-known-r : tie.Need-enum-known-r
 enum-known-r c = search needs
 
 put-run-requires : tie.Need-put-run-requires
-put-run-requires c κs = legal-of (rw (c .before .before .before .before .before .r .given .1) at (c .before .before .before .before .before .before .before .read .ensures))
+put-run-requires c κs = legal-of (rw (c .before .before .before .before .before .before .r .given .1) at (c .before .before .before .before .before .before .before .before .read .ensures))
 
 enum-known-n : tie.Need-enum-known-n
 enum-known-n c = search needs
@@ -38,17 +38,20 @@ same-length-3 c = search needs
 same-length-4 : tie.Need-same-length-4
 same-length-4 c = search needs
 
+same-length-5 : tie.Need-same-length-5
+same-length-5 c = search needs
+
 returns : tie.Need-returns
 returns c =
     record {
-      answer = read (c .before .before .before .before .before .before .before .before .before .before .before .before .before .before .r .given .0 .0);
-      answers = rw (c .before .before .before .before .before .before .before .before .before .before .before .before .before .before .r .given .1) at (c .before .before .before .before .before .before .before .before .before .before .before .before .before .before .before .before .read .ensures);
-      files = c .before .before .before .before .before .before .before .before .put-run .ensures .1;
-      puts = c .before .before .before .before .before .before .before .before .put-run .ensures .0;
+      answer = read (c .before .before .before .before .before .before .before .before .before .before .before .before .before .before .before .before .before .r .given .0 .0);
+      answers = rw (c .before .before .before .before .before .before .before .before .before .before .before .before .before .before .before .before .before .r .given .1) at (c .before .before .before .before .before .before .before .before .before .before .before .before .before .before .before .before .before .before .before .read .ensures);
+      files = c .before .before .before .before .before .before .before .before .before .before .put-run .ensures .1;
+      puts = c .before .before .before .before .before .before .before .before .before .before .put-run .ensures .0;
     }
 
-same-length-5 : tie.Need-same-length-5
-same-length-5 c = search needs
+same-length-6 : tie.Need-same-length-6
+same-length-6 c = search needs
 
 returns-2 : tie.Need-returns-2
 returns-2 c =
@@ -59,8 +62,8 @@ returns-2 c =
       puts = c .before .before .put-refused .ensures;
     }
 
-same-length-6 : tie.Need-same-length-6
-same-length-6 c = search needs
+same-length-7 : tie.Need-same-length-7
+same-length-7 c = search needs
 
 returns-3 : tie.Need-returns-3
 returns-3 c =
@@ -87,8 +90,9 @@ put-answer-spec =
     same-length-2
     same-length-3
     same-length-4
-    returns
     same-length-5
-    returns-2
+    returns
     same-length-6
+    returns-2
+    same-length-7
     returns-3)

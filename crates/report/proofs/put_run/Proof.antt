@@ -22,9 +22,12 @@ same-length-3 c = search needs
 same-length-4 : tie.Need-same-length-4
 same-length-4 c = search needs
 
+same-length-5 : tie.Need-same-length-5
+same-length-5 c = search needs
+
 returns : tie.Need-returns
 returns c =
-    let e = c .before .before .before .before .before .before .before .before .before .before .execute .ensures in
+    let e = c .before .before .before .before .before .before .before .before .before .before .before .before .execute .ensures in
     (rw (ap (λ (o : Outcome). o .answer) e) at (c .before .before .put-executed .ensures), ap (λ (o : Outcome). o .files) e)
 
 pub put-run-spec : {M : Type 1} → statement M
@@ -37,4 +40,5 @@ put-run-spec =
     same-length-2
     same-length-3
     same-length-4
+    same-length-5
     returns)

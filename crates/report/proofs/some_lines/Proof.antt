@@ -18,7 +18,7 @@ same-length : tie.Need-same-length
 same-length c = search needs
 
 returns : tie.Need-returns
-returns c = c .before .before .too-long .ensures (files (now (c .before .before .before .before .before .before .before .before .before .before .args .words)) (now (c .before .before .before .before .before .before .before .before .before .before .args .doubles)) (now (c .before .before .before .before .before .before .before .before .before .before .args .preds)))
+returns c = c .before .before .too-long .ensures (files (now (c .before .before .before .before .before .before .before .before .before .before .before .args .words)) (now (c .before .before .before .before .before .before .before .before .before .before .before .args .halves)) (now (c .before .before .before .before .before .before .before .before .before .before .before .args .doubles)) (now (c .before .before .before .before .before .before .before .before .before .before .before .args .preds)))
 
 print-lines-requires : tie.Need-print-lines-requires
 print-lines-requires c κs = search needs
@@ -35,6 +35,9 @@ same-length-4 c = search needs
 same-length-5 : tie.Need-same-length-5
 same-length-5 c = search needs
 
+same-length-6 : tie.Need-same-length-6
+same-length-6 c = search needs
+
 returns-2 : tie.Need-returns-2
 returns-2 c = search needs
 
@@ -50,11 +53,13 @@ some-lines-spec =
     same-length-3
     same-length-4
     same-length-5
+    same-length-6
     returns-2)
 
 -- no two outcomes, answer, files and buffer left, satisfy the contract as it stands in src/lib.rt
 pub some-lines-one-outcome :
-    (κs : Lfts 5) (a : Dens κs kinds.ps) (x y : Progress) (s t : AtExit (endedOf 5 kinds.ps kinds.r) κs)
+    (κs : Lfts 6) (a : Dens κs kinds.ps) (x y : Progress) (s t : AtExit (endedOf 6 kinds.ps kinds.r) κs)
     → reads.Post κs a x s → reads.Post κs a y t
-    → SameCall x y (files (now (s .1 .1 .1 .0)) (now (s .1 .1 .1 .1 .0)) (now (s .1 .1 .1 .1 .1 .0))) (files (now (t .1 .1 .1 .0)) (now (t .1 .1 .1 .1 .0)) (now (t .1 .1 .1 .1 .1 .0))) (now (s .1 .1 .1 .1 .1 .1 .0)) (now (t .1 .1 .1 .1 .1 .1 .0))
+    → SameCall x y (files (now (s .1 .1 .1 .0)) (now (s .1 .1 .1 .1 .0)) (now (s .1 .1 .1 .1 .1 .0)) (now (s .1 .1 .1 .1 .1 .1 .0))) (files (now (t .1 .1 .1 .0)) (now (t .1 .1 .1 .1 .0)) (now (t .1 .1 .1 .1 .1 .0)) (now (t .1 .1 .1 .1 .1 .1 .0)))
+    (now (s .1 .1 .1 .1 .1 .1 .1 .0)) (now (t .1 .1 .1 .1 .1 .1 .1 .0))
 some-lines-one-outcome κs a x y s t p q = prints-one x y p q

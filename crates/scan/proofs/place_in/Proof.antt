@@ -11,6 +11,9 @@ enum-told-2 c = search needs
 enum-told-3 : tie.Need-enum-told-3
 enum-told-3 c = search needs
 
+enum-told-4 : tie.Need-enum-told-4
+enum-told-4 c = search needs
+
 returns : tie.Need-returns
 returns c =
     simp
@@ -26,5 +29,12 @@ returns-3 c =
     simp
     (c .enum-told3 .given .1)
 
+returns-4 : tie.Need-returns-4
+returns-4 c =
+    simp
+    (c .enum-told4 .given .1)
+
 pub place-in-spec : {M : Type 1} → statement M
-place-in-spec = tie.close (tie.spec enum-told enum-told-2 enum-told-3 returns returns-2 returns-3)
+place-in-spec =
+    tie.close
+    (tie.spec enum-told enum-told-2 enum-told-3 enum-told-4 returns returns-2 returns-3 returns-4)

@@ -40,11 +40,23 @@ returns-5 : tie.Need-returns-5
 unfolding prefixBy
 returns-5 c =
     simp (
-      ne-eqb _ _ (c .if4 .left),
-      eq-eqb _ _ (c .before .if3 .left),
-      ne-eqb _ _ (c .before .before .if2 .left),
-      eq-eqb _ _ (c .before .before .before .if1 .left),
+      eq-eqb _ _ (c .if5 .taken),
+      ne-eqb _ _ (c .before .if4 .left),
+      eq-eqb _ _ (c .before .before .if3 .left),
+      ne-eqb _ _ (c .before .before .before .if2 .left),
+      eq-eqb _ _ (c .before .before .before .before .if1 .left),
+    )
+
+returns-6 : tie.Need-returns-6
+unfolding prefixBy
+returns-6 c =
+    simp (
+      ne-eqb _ _ (c .if5 .left),
+      ne-eqb _ _ (c .before .if4 .left),
+      eq-eqb _ _ (c .before .before .if3 .left),
+      ne-eqb _ _ (c .before .before .before .if2 .left),
+      eq-eqb _ _ (c .before .before .before .before .if1 .left),
     )
 
 pub prefix-by-spec : {M : Type 1} → statement M
-prefix-by-spec = tie.close (tie.spec returns returns-2 returns-3 returns-4 returns-5)
+prefix-by-spec = tie.close (tie.spec returns returns-2 returns-3 returns-4 returns-5 returns-6)

@@ -24,6 +24,9 @@ with-value-requires c κs = search needs
 with-value-requires-2 : tie.Need-with-value-requires-2 Inv-loop μ-loop
 with-value-requires-2 c κs = search needs
 
+with-value-requires-3 : tie.Need-with-value-requires-3 Inv-loop μ-loop
+with-value-requires-3 c κs = search needs
+
 loop-less : tie.Need-loop-less Inv-loop μ-loop
 loop-less c = search needs
 
@@ -44,6 +47,7 @@ start-spec =
     mul-with-value
     with-value-requires
     with-value-requires-2
+    with-value-requires-3
     loop-less
     loop-again
     returns)
