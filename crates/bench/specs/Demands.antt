@@ -1,5 +1,5 @@
--- The user's three demands, in their words and order, as laws of the whole bench: document 01 with the requests that have landed (T-01, T-02, T-04, T-05). The laws of T-14, which
--- changed no answer, stand beside this file, in TakenApart.antt; what stands at each place of T-05, in WhereWrong.antt.
+-- The user's three demands, in their words and order, as laws of the whole bench: document 01 with the requests that have landed (T-01, T-02, T-04, T-05, T-06). The laws of T-14,
+-- which changed no answer, stand beside this file, in TakenApart.antt; what stands at each place of T-05, in WhereWrong.antt.
 -- `read`, `write` and `execute` of src/lib.rt promise `Answers`, `writing` and `run` for every input; these laws say what that means, and
 -- proofs/Contracts.antt says the records at the end of this file of the functions' own contracts, and that these ask nothing. What a definition says, its own file says
 -- after the documents (docs/RULES.md leads the way). Assumes nothing.

@@ -1,5 +1,5 @@
 -- Document 01, "Bench figures": the starred ones; then fourteen for T-01, which came with its issue, and sixteen for T-02, of which document 02
--- has two; then document 01's seven of execution without a star, and ten of ours; then twenty for T-06. One list with one claim. Each is a line
+-- has two; then document 01's seven of execution without a star, and ten of ours; then twenty-five for T-06. One list with one claim. Each is a line
 -- with its record and its files, through `run`, and the whole outcome. `%r0`, `%r1` and `%r2` hold a, b and c; d is `%r3`; `%rs` likewise.
 -- Predicate 0 holds c of setp; its places are 1 and 2.
 use Prim.Native.Nat.{ℕ}
@@ -319,10 +319,15 @@ figures =
     (files (four 1 1 0 other) (replicate 33 0) (replicate 32 0) (three 0 0 0)) (refused 10)
     ∷ answers "vadd.s32.s32.s32 %r3, %r0, %r1;" (scalarRecord Vadd S32 false S32 S32 (Plain (r 3)))
     (files (four 1 1 0 other) (replicate 32 0) (replicate 31 0) (three 0 0 0)) (refused 10)
+    ∷ answers "vadd.s32.s32.s32 %r3, %r0, %r1;" (scalarRecord Vadd S32 false S32 S32 (Plain (r 3)))
+    (files (four 1 1 0 other) (replicate 32 0) (replicate 33 0) (three 0 0 0)) (refused 10)
+    ∷ answers "vadd.s32.s32.s32 %r3, %r0, %r1;" (scalarRecord Vadd S32 false S32 S32 (Plain (r 3)))
+    (files (four 1 1 0 other) (replicate 32 0) (replicate 32 0) (0 ∷ three 0 0 0)) (refused 10)
     -- exact numbers of 16 bits, signed or not: 7FFF and 8000, FFFF and 0
     ∷ sorts "setp.lt.u16 %p1|%p2, %rs0, %rs1;" (setpHalves (Six Lt) DataType.U16) 0x7FFF 0x8000 1 0
     ∷ sorts "setp.lt.s16 %p1|%p2, %rs0, %rs1;" (setpHalves (Six Lt) DataType.S16) 0x7FFF 0x8000 0 1
     ∷ sorts "setp.lt.s16 %p1|%p2, %rs0, %rs1;" (setpHalves (Six Lt) DataType.S16) 0x8000 0x7FFF 1 0
+    ∷ sorts "setp.eq.b16 %p1|%p2, %rs0, %rs1;" (setpHalves (Six Eq) DataType.B16) 0x7FFF 0xFFFF 0 1
     ∷ sets "set.gt.u32.s16 %r3, %rs0, %rs1;" (setHalves SetType.U32 (Six Gt) DataType.S16) 0xFFFF 0 0
     ∷ sets "set.gt.u32.u16 %r3, %rs0, %rs1;" (setHalves SetType.U32 (Six Gt) DataType.U16) 0xFFFF 0 0xFFFFFFFF
     ∷ sets "set.hi.s32.u16 %r3, %rs0, %rs1;" (setHalves SetType.S32 (Unsigned Hi) DataType.U16) 0x8000 0x00FF 0xFFFFFFFF
@@ -331,6 +336,8 @@ figures =
     -- selp and slct copy 16 bits; c of slct is a word
     ∷ copies "selp.b16 %rs3, %rs0, %rs1, %p0;" (selpHalves DataType.B16 (rs 3)) 0xFFFF 0x8001 0 1 0xFFFF
     ∷ copies "selp.u16 %rs3, %rs0, %rs1, %p0;" (selpHalves DataType.U16 (rs 3)) 0xFFFF 0x8001 0 0 0x8001
+    ∷ copies "selp.s16 %rs3, %rs0, %rs1, %p0;" (selpHalves DataType.S16 (rs 3)) 0xFFFF 0x8001 0 1 0xFFFF
+    ∷ copies "slct.b16.f32 %rs3, %rs0, %rs1, %r2;" (slctHalves (SlctType.F32 false) DataType.B16) 0xFFFF 0x8001 0x80000000 0 0xFFFF
     ∷ copies "slct.s16.s32 %rs3, %rs0, %rs1, %r2;" (slctHalves SlctType.S32 DataType.S16) 0xFFFF 0x8001 0x7FFFFFFF 0 0xFFFF
     ∷ copies "slct.s16.s32 %rs3, %rs0, %rs1, %r2;" (slctHalves SlctType.S32 DataType.S16) 0xFFFF 0x8001 0x80000000 0 0x8001
     ∷ copies "slct.u16.f32 %rs3, %rs0, %rs1, %r2;" (slctHalves (SlctType.F32 false) DataType.U16) 0xFFFF 0x8001 0x80000001 0 0x8001

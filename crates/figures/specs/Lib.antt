@@ -2,3 +2,4 @@ pub mod Figures
 pub mod Lines
 pub mod Answered
 pub mod LaneFigures
+pub mod Printed

@@ -12,3 +12,4 @@ pub mod LaneLaws
 pub mod LaneLines
 pub mod TakenApartLaws
 pub mod ClampedLaws
+pub mod TypeLaws
