@@ -23,8 +23,6 @@ use Rattle.record.specs.declared.Choice.{Choice}
 use Rattle.record.specs.declared.Scalar.{Scalar}
 use Rattle.record.specs.declared.Form.{Form}
 use Rattle.record.specs.declared.Form.the-variants.{Plain, Merge, Combine}
-use Rattle.record.specs.declared.Operand
-use Rattle.record.specs.declared.Operand.{Operand}
 use Rattle.record.specs.declared.Guard.{Guard}
 use Rattle.record.specs.declared.Guard.the-variants.{Always, When}
 use Rattle.record.specs.declared.BoolOp.{BoolOp}

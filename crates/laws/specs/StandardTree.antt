@@ -14,7 +14,7 @@ use Rattle.base.specs.PackLaws.{all-of}
 use Rattle.signs.specs.Bytes
 use Rattle.record.specs.Registers.{isInside, Place, reg, word, operandPlace, r, p}
 use Rattle.record.specs.Operands.{fullMask, defaultA, defaultB, instructionOperandsFit}
-use Rattle.record.specs.Refusals.{isLegal, Legal, conditionInRange, guardInRange, selectedInRange, formInRange, scalarInRange, lanesInRange, operandInRange, combinationInRange, comparisonInRange, destinationInRange, choiceInRange, instructionInRange}
+use Rattle.record.specs.Refusals.{isLegal, Legal, conditionInRange, guardInRange, selectedInRange, formInRange, scalarInRange, lanesInRange, combinationInRange, comparisonInRange, destinationInRange, choiceInRange, instructionInRange}
 use Rattle.record.specs.declared.VideoType.{VideoType}
 use Rattle.record.specs.declared.SetType.{SetType}
 use Rattle.record.specs.declared.SlctType
@@ -28,7 +28,6 @@ use Rattle.record.specs.declared.Arith.{Arith}
 use Rattle.record.specs.declared.LaneArith.{LaneArith}
 use Rattle.record.specs.declared.File.the-variants.{Words, Halves, Doubles, Preds}
 use Rattle.record.specs.declared.Word.{Word}
-use Rattle.record.specs.declared.Pred.{Pred}
 use Rattle.record.specs.declared.Condition.{Condition}
 use Rattle.record.specs.declared.Guard.{Guard}
 use Rattle.record.specs.declared.Guard.the-variants.{Always, When}
@@ -47,8 +46,6 @@ use Rattle.record.specs.declared.Digits.{Digits}
 use Rattle.record.specs.declared.Lanes.{Lanes}
 use Rattle.record.specs.declared.Comparison.{Comparison}
 use Rattle.record.specs.declared.Choice.{Choice}
-use Rattle.record.specs.declared.Operand
-use Rattle.record.specs.declared.Operand.{Operand}
 use Rattle.record.specs.declared.Destination.{Destination}
 use Rattle.record.specs.declared.Destination.the-variants.{One, Pair, First, Second}
 use Rattle.record.specs.declared.Instruction.{Instruction}

@@ -9,7 +9,7 @@ use borrow.Author.Tests.{eqb-true, not-false}
 use Rattle.signs.specs.Bytes.{isBlank}
 use Rattle.signs.specs.Text.{bytes}
 use Rattle.record.specs.declared.File.the-variants.{Words, Halves, Doubles, Preds}
-use Rattle.record.specs.Registers.{Place, reg, pred, p}
+use Rattle.record.specs.Registers.{reg, pred, p}
 use Rattle.record.specs.Refusals.{numbersInRange, pairApart, instructionApart}
 use Rattle.record.specs.declared.Guard.{Guard}
 use Rattle.record.specs.declared.Guard.the-variants.{Always, When}

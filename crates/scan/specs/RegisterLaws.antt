@@ -8,7 +8,6 @@ use borrow.Author.Tests.{ne-eqb, eqb-true}
 use lib.Dec.{eqb}
 use lib.ListN.{length, getD, drop, length-append}
 use Rattle.signs.specs.Bytes.{isDigit}
-use Rattle.signs.specs.Text.{bytes}
 use Rattle.record.specs.Registers as files
 use Rattle.rules.specs.Shape.{numberText, fileText, registerText}
 use Rattle.rules.specs.Grammar.{numberLimit, GoodPlace}
