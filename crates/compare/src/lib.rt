@@ -89,15 +89,15 @@ fn value(t: DataType, ftz: bool, x: u64) -> Compared
     ensures { λ r. ⌜ r ≡ comparedOf t ftz x ⌝ }
 {
     let low = x % WORD_SIZE;
-    let lowest = x % HALF_SIZE;
+    let low_half = x % HALF_SIZE;
     match t {
-        DataType::B16 => Compared::Whole(lowest),
+        DataType::B16 => Compared::Whole(low_half),
         DataType::B32 => Compared::Whole(low),
         DataType::B64 => Compared::Whole(x),
-        DataType::U16 => Compared::Whole(lowest),
+        DataType::U16 => Compared::Whole(low_half),
         DataType::U32 => Compared::Whole(low),
         DataType::U64 => Compared::Whole(x),
-        DataType::S16 => Compared::Whole(moved(HALF_OF_HALVES, lowest)),
+        DataType::S16 => Compared::Whole(moved(HALF_OF_HALVES, low_half)),
         DataType::S32 => Compared::Whole(moved(HALF_OF_WORDS, low)),
         DataType::S64 => Compared::Whole(moved(HALF_OF_DOUBLES, x)),
         DataType::F32 => Compared::Single(single(flush(ftz, registers::low_word(x)))),

@@ -1,6 +1,6 @@
 -- Document 01, "Bench figures": the starred ones; then fourteen for T-01, which came with its issue, and sixteen for T-02, of which document 02
 -- has two; then document 01's seven of execution without a star, and ten of ours; then twenty-five for T-06. One list with one claim. Each is a line
--- with its record and its files, through `run`, and the whole outcome. `%r0`, `%r1` and `%r2` hold a, b and c; d is `%r3`; `%rs` likewise.
+-- with its record and its files, through `run`, and the whole outcome. `%r0`, `%r1` and `%r2` hold a, b and c; d is `%r3`; of `%rs` a, b and d likewise.
 -- Predicate 0 holds c of setp; its places are 1 and 2.
 use Prim.Native.Nat.{ℕ}
 use Prim.Native.String.{String}

@@ -15,11 +15,11 @@ use Rattle.changes.specs.Changes.{startFiles, changeText, changesText, register
 -- `%r` (8 hex digits, capitals), between `%r` and `%rd` `%rs` (4), `%rd` (16), `%p`; numbers rising
 pub printed-figure :
     registersText
-    (files (set (startFiles .words) 63 0xABCDEF) (set (set (startFiles .halves) 2 0x1F) 31 0x80AB) (set (startFiles .doubles) 1 0xFEDC) (set (startFiles .preds) 15 1))
+    (files (set (startFiles .words) 63 0xABCDEF) (set (set (startFiles .halves) 2 0x1F) 31 0x80AB) (set (startFiles .doubles) 31 0xFEDC) (set (startFiles .preds) 15 1))
     ≡ bytes "%r63 00ABCDEF"
     ++ (lineFeed ∷ bytes "%rs2 001F")
     ++ (lineFeed ∷ bytes "%rs31 80AB")
-    ++ (lineFeed ∷ bytes "%rd1 000000000000FEDC")
+    ++ (lineFeed ∷ bytes "%rd31 000000000000FEDC")
     ++ (lineFeed ∷ bytes "%p15 1")
     ++ (lineFeed ∷ [])
 unfolding registersText changesText changeText startFiles hex

@@ -195,7 +195,7 @@ at-most i o k e = go (ltb 4 k) refl _ e
     go true p x s = not-so s
     go false p x s = ltb-false 4 k p
 
--- rows of the same head have the same
+-- a row keeps its register where its operands are taken out; so rows of one head have one (`same-row`)
 x-blank : (i : Instruction) → x-of (blank i) ≡ x-of i
 x-blank (Arithmetic op d sat s) = refl
 x-blank (Vset c s) = refl

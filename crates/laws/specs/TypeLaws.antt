@@ -1,4 +1,5 @@
--- A type's name is its letter and its width: so `kindOf` and `typeBits` say of each type what its name says. `ftz` goes with f32 alone. Assumes nothing.
+-- A type's name is its letter and its width: so `kindOf` and `typeBits` say of each type what its name says. `isF32` is of f32
+-- alone, so that `ftz` in set and setp goes with no other type. Assumes nothing.
 use Prim.Native.Nat.{ℕ}
 use native.Mathlib.Omega.{arith}
 use mathlib.Core.Path.{_≡_, refl}

@@ -196,10 +196,11 @@ after i f = putAll (writes i f) f
 
 -- ==== executing a record
 
--- 10 says that this does not hold: file lengths not 64, 32, 16; T-06: 10 reads 64, 32, 32, 16 with the new file second
+-- a file has its length
 abbrev pub sizeFits : Files → File → Bool
 sizeFits f file = eqb (length (fileOf f file)) (countOf file)
 
+-- 10 says that this does not hold: file lengths not 64, 32, 16; T-06: 10 reads 64, 32, 32, 16 with the new file second
 unfoldable pub sizesFit : Files → Bool
 sizesFit f = sizeFits f Words && sizeFits f Halves && sizeFits f Doubles && sizeFits f Preds
 
