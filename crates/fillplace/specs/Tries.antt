@@ -1,6 +1,7 @@
 -- How far operands begin as a legal list does, as the code tries it. No one has to believe it: laws join it to document 01.
 use Prim.Native.Nat.{ℕ, _+_, _-_}
 use mathlib.Core.List.{[], _∷_}
+use mathlib.Core.Path.{_≡_}
 use mathlib.Core.Bool.{Bool, true, false, _||_, cond}
 use lib.Dec.{eqb, ltb}
 use Rattle.record.specs.Operands.{instructionOperandsFit}
