@@ -12,7 +12,6 @@ use Rattle.signs.specs.Lists.{Listed}
 use Rattle.signs.specs.Lists.Listed.{here, later}
 use Rattle.record.specs.Registers.{Files, withFile, word, r, at, Inside, isInside, wordCount}
 use Rattle.record.specs.Operands.{maskFits}
-use Rattle.record.specs.Refusals.{Legal}
 use Rattle.record.specs.declared.Word.{Word}
 use Rattle.record.specs.declared.LaneWidth.{LaneWidth}
 use Rattle.record.specs.declared.LaneWidth.the-variants.{Half, Byte}
@@ -22,8 +21,10 @@ use Rattle.record.specs.declared.Lanes.{Lanes}
 use Rattle.record.specs.declared.Scalar.{Scalar}
 use Rattle.record.specs.declared.Guard.{Guard}
 use Rattle.record.specs.declared.Record.{Record}
+use Rattle.record.specs.declared.Target.{Target}
 use Rattle.rules.specs.Numbers.{lanes}
 use Rattle.rules.specs.Execution.{arithmeticOf, vsetOf, formOf, formSize, maskAt, groupOf}
+use Rattle.rules.specs.Targets.{Allowed}
 use Rattle.rules.specs.Executing.{wordOf, selectedWord, formC, formD, write, writes, put, after, sizesFit, Admitted, guardHolds, done, skipped, run}
 use Rattle.rules.specs.LaneScalars.{Operation, compares, computes, scalarOf, ScalarLine, linesFrom, allLanes, runAll, answersAll}
 use Rattle.laws.specs.PlaceLaws.{off}
@@ -56,46 +57,46 @@ put-admitted n v f ok = record { sizes = rw (length-set (f .words) n v) (ok .siz
 
 -- ==== lines of scalar video under a guard
 
-pub scalar-writes : (o : Operation) (s : Scalar) (f : Files)
-    → writes (scalarOf o s) f
+pub scalar-writes : (target : Target) (o : Operation) (s : Scalar) (f : Files)
+    → writes target (scalarOf o s) f
     ≡ write (r (formD (s .form)))
     (formOf (isSignedOf o) (s .form) (formC (f .words) (s .form))
     (scalarZ o (formSize (s .form)) s (wordOf (f .words) (selectedWord (s .a))) (wordOf (f .words) (selectedWord (s .b))))) ∷ []
 unfolding writes vsetOf arithmeticOf
-scalar-writes (compares cmp) s f = refl
-scalar-writes (computes op dtype sat) s f = refl
+scalar-writes target (compares cmp) s f = refl
+scalar-writes target (computes op dtype sat) s f = refl
 
--- a legal line answers done where its guard holds, else skipped
-pub answer-by-guard : (y : Record) → Legal y → (f : Files) → Admitted f → (t : Bool) → guardHolds (f .preds) (y .guard) ≡ t → run y f .answer ≡ cond t done skipped
-answer-by-guard y legal f admitted true t = ap (λ q. q .answer) (executes y f legal admitted t)
-answer-by-guard y legal f admitted false t = ap (λ q. q .answer) (skips y f legal admitted t)
+-- a line that the target allows answers done where its guard holds, else skipped
+pub answer-by-guard : (target : Target) (y : Record) → Allowed target y → (f : Files) → Admitted f → (t : Bool) → guardHolds (f .preds) (y .guard) ≡ t → run target y f .answer ≡ cond t done skipped
+answer-by-guard target y allowed f admitted true t = ap (λ q. q .answer) (executes target y f allowed admitted t)
+answer-by-guard target y allowed f admitted false t = ap (λ q. q .answer) (skips target y f allowed admitted t)
 
 -- a line of scalar video moves at most one word
-one-word : (g : Guard) (y : Record) → ScalarLine g y → (f : Files) (P : Files → Type 0) → P f → ((n v : ℕ) → P (put (word n) v f)) → P (run y f .files)
+one-word : (target : Target) (g : Guard) (y : Record) → ScalarLine target g y → (f : Files) (P : Files → Type 0) → P f → ((n v : ℕ) → P (put (word n) v f)) → P (run target y f .files)
 unfolding after
-one-word g y k f P same moved = left-by y f P same (rw (k .scalar, scalar-writes (k .o) (k .s) f) (moved _ _))
+one-word target g y k f P same moved = left-by target y f P same (rw (k .scalar, scalar-writes target (k .o) (k .s) f) (moved _ _))
 
 -- the guard and the admitted files
 abbrev Under : Guard → Bool → Files → Type 0
 Under g t f = Admitted f × (guardHolds (f .preds) g ≡ t)
 
 -- one after another, all answer alike,
-pub all-answer : (g : Guard) (t : Bool) (ys : List Record) → ((y : Record) → Listed y ys → ScalarLine g y) → (f : Files) → Admitted f → guardHolds (f .preds) g ≡ t
-    → answersAll ys f ≡ map (λ (y : Record). cond t done skipped) ys
-all-answer g t [] each f ok guard = refl
-all-answer g t (y ∷ ys) each f ok guard =
+pub all-answer : (target : Target) (g : Guard) (t : Bool) (ys : List Record) → ((y : Record) → Listed y ys → ScalarLine target g y) → (f : Files) → Admitted f → guardHolds (f .preds) g ≡ t
+    → answersAll target ys f ≡ map (λ (y : Record). cond t done skipped) ys
+all-answer target g t [] each f ok guard = refl
+all-answer target g t (y ∷ ys) each f ok guard =
     let k = each y (here refl) in
-    let h = one-word g y k f (Under g t) (ok, guard) (λ n v. (put-admitted n v f ok, guard)) in
-    ap₂ _∷_ (answer-by-guard y (k .legal) f ok t (ap (guardHolds (f .preds)) (k .guarded) ∙ guard))
-    (all-answer g t ys (λ z m. each z (later m)) (run y f .files) (h .0) (h .1))
+    let h = one-word target g y k f (Under g t) (ok, guard) (λ n v. (put-admitted n v f ok, guard)) in
+    ap₂ _∷_ (answer-by-guard target y (k .allowed) f ok t (ap (guardHolds (f .preds)) (k .guarded) ∙ guard))
+    (all-answer target g t ys (λ z m. each z (later m)) (run target y f .files) (h .0) (h .1))
 
 -- and where the guard does not hold, nothing moves
-pub all-skipped : (g : Guard) (ys : List Record) → ((y : Record) → Listed y ys → ScalarLine g y) → (f : Files) → Admitted f → guardHolds (f .preds) g ≡ false → runAll ys f ≡ f
-all-skipped g [] each f ok guard = refl
-all-skipped g (y ∷ ys) each f ok guard =
+pub all-skipped : (target : Target) (g : Guard) (ys : List Record) → ((y : Record) → Listed y ys → ScalarLine target g y) → (f : Files) → Admitted f → guardHolds (f .preds) g ≡ false → runAll target ys f ≡ f
+all-skipped target g [] each f ok guard = refl
+all-skipped target g (y ∷ ys) each f ok guard =
     let k = each y (here refl) in
-    ap (λ q. runAll ys (q .files)) (skips y f (k .legal) ok (ap (guardHolds (f .preds)) (k .guarded) ∙ guard))
-    ∙ all-skipped g ys (λ z m. each z (later m)) f ok guard
+    ap (λ q. runAll target ys (q .files)) (skips target y f (k .allowed) ok (ap (guardHolds (f .preds)) (k .guarded) ∙ guard))
+    ∙ all-skipped target g ys (λ z m. each z (later m)) f ok guard
 
 -- ==== the lines of the lanes
 
@@ -120,9 +121,9 @@ listed-among y [] ys f g q = g q
 listed-among y (x ∷ xs) ys f g (here q) = f (here q)
 listed-among y (x ∷ xs) ys f g (later q) = listed-among y xs ys (λ m. f (later m)) g q
 
-run-append : (xs ys : List Record) (f : Files) → runAll (xs ++ ys) f ≡ runAll ys (runAll xs f)
-run-append [] ys f = refl
-run-append (x ∷ xs) ys f = run-append xs ys (run x f .files)
+run-append : (target : Target) (xs ys : List Record) (f : Files) → runAll target (xs ++ ys) f ≡ runAll target ys (runAll target xs f)
+run-append target [] ys f = refl
+run-append target (x ∷ xs) ys f = run-append target xs ys (run target x f .files)
 
 module _ (of : ℕ → Word → List Record) (l : Lanes) (e : Word) where
   -- what holds of the lines of each lane, whichever register of the file they take, holds of all
@@ -140,31 +141,31 @@ module _ (of : ℕ → Word → List Record) (l : Lanes) (e : Word) where
     lanes-each k y m = from-each (lanes (l .width)) 0 (l .c) k y m
 
   -- what is left with v in e: where each lane's lines lead from there to one step more, all of them lead to the group of lanes
-  module _ (t : ℕ → ℤ) (signed : Bool) (f : Files) (Left : ℕ → Files → Type 0) (first : (i : ℕ) → i < lanes (l .width) → Left (stepOf l signed i (at f (r (l .c))) (t i)) (runAll (of i (l .c)) f)) (next : (i v : ℕ) (g : Files) → i < lanes (l .width) → Left v g → Left (stepOf l signed i v (t i)) (runAll (of i e) g)) where
-    later-lanes : (n i v : ℕ) (g : Files) → n + i ≡ lanes (l .width) → Left v g → Left (chain l t signed n i v) (runAll (linesFrom of (l .mask) e n i e) g)
+  module _ (target : Target) (t : ℕ → ℤ) (signed : Bool) (f : Files) (Left : ℕ → Files → Type 0) (first : (i : ℕ) → i < lanes (l .width) → Left (stepOf l signed i (at f (r (l .c))) (t i)) (runAll target (of i (l .c)) f)) (next : (i v : ℕ) (g : Files) → i < lanes (l .width) → Left v g → Left (stepOf l signed i v (t i)) (runAll target (of i e) g)) where
+    later-lanes : (n i v : ℕ) (g : Files) → n + i ≡ lanes (l .width) → Left v g → Left (chain l t signed n i v) (runAll target (linesFrom of (l .mask) e n i e) g)
     later-lanes zero i v g q k = k
     later-lanes (suc n) i v g q k = go (maskAt (l .mask) i) (λ u y. later-lanes n (suc i) u y (omega arith))
       where
-        go : (m : Bool) → ((u : ℕ) (y : Files) → Left u y → Left (chain l t signed n (suc i) u) (runAll (linesFrom of (l .mask) e n (suc i) e) y))
+        go : (m : Bool) → ((u : ℕ) (y : Files) → Left u y → Left (chain l t signed n (suc i) u) (runAll target (linesFrom of (l .mask) e n (suc i) e) y))
             → Left (cond m (chain l t signed n (suc i) (stepOf l signed i v (t i))) (chain l t signed n (suc i) v))
-            (runAll (cond m (of i e ++ linesFrom of (l .mask) e n (suc i) e) (linesFrom of (l .mask) e n (suc i) e)) g)
-        go true rest = rw (run-append (of i e) (linesFrom of (l .mask) e n (suc i) e) g) (rest _ (runAll (of i e) g) (next i v g (omega arith) k))
+            (runAll target (cond m (of i e ++ linesFrom of (l .mask) e n (suc i) e) (linesFrom of (l .mask) e n (suc i) e)) g)
+        go true rest = rw (run-append target (of i e) (linesFrom of (l .mask) e n (suc i) e) g) (rest _ (runAll target (of i e) g) (next i v g (omega arith) k))
         go false rest = rest v g k
 
     all-lanes : (n i j : ℕ) → n + i ≡ lanes (l .width) → i ≤ j → j < n + i → maskAt (l .mask) j ≡ true
-        → Left (chain l t signed n i (at f (r (l .c)))) (runAll (linesFrom of (l .mask) e n i (l .c)) f)
+        → Left (chain l t signed n i (at f (r (l .c)))) (runAll target (linesFrom of (l .mask) e n i (l .c)) f)
     all-lanes zero i j q p k m = absurd (omega arith)
     all-lanes (suc n) i j q p k m = go (maskAt (l .mask) i) refl (λ h. all-lanes n (suc i) j (omega arith) h (omega arith) m)
       where
-        go : (s : Bool) → maskAt (l .mask) i ≡ s → (suc i ≤ j → Left (chain l t signed n (suc i) (at f (r (l .c)))) (runAll (linesFrom of (l .mask) e n (suc i) (l .c)) f))
+        go : (s : Bool) → maskAt (l .mask) i ≡ s → (suc i ≤ j → Left (chain l t signed n (suc i) (at f (r (l .c)))) (runAll target (linesFrom of (l .mask) e n (suc i) (l .c)) f))
             → Left (cond s (chain l t signed n (suc i) (stepOf l signed i (at f (r (l .c))) (t i))) (chain l t signed n (suc i) (at f (r (l .c)))))
-            (runAll (cond s (of i (l .c) ++ linesFrom of (l .mask) e n (suc i) e) (linesFrom of (l .mask) e n (suc i) (l .c))) f)
+            (runAll target (cond s (of i (l .c) ++ linesFrom of (l .mask) e n (suc i) e) (linesFrom of (l .mask) e n (suc i) (l .c))) f)
         go true s rest =
-            rw (run-append (of i (l .c)) (linesFrom of (l .mask) e n (suc i) e) f) (later-lanes n (suc i) _ (runAll (of i (l .c)) f) (omega arith) (first i (omega arith)))
+            rw (run-append target (of i (l .c)) (linesFrom of (l .mask) e n (suc i) e) f) (later-lanes n (suc i) _ (runAll target (of i (l .c)) f) (omega arith) (first i (omega arith)))
         go false s rest = rest (past-unmasked (l .mask) i j p s m)
 
-    pub lanes-left : maskFits (l .width) (l .mask) ≡ true → Left (groupOf l t (at f (r (l .c)))) (runAll (allLanes l of e) f)
+    pub lanes-left : maskFits (l .width) (l .mask) ≡ true → Left (groupOf l t (at f (r (l .c)))) (runAll target (allLanes l of e) f)
     lanes-left fit =
         let some = some-masked (l .width) (l .mask) fit in
-        subst (λ v. Left v (runAll (allLanes l of e) f)) (chain-group l t signed (at f (r (l .c))) (some .0) (some .1) (some .2))
+        subst (λ v. Left v (runAll target (allLanes l of e) f)) (chain-group l t signed (at f (r (l .c))) (some .0) (some .1) (some .2))
         (all-lanes (lanes (l .width)) 0 (some .0) (omega arith) (omega arith) (omega (arith, some .1)) (some .2))

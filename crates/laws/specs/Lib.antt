@@ -13,3 +13,4 @@ pub mod LaneLines
 pub mod TakenApartLaws
 pub mod ClampedLaws
 pub mod TypeLaws
+pub mod TargetLaws

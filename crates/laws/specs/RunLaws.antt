@@ -34,18 +34,20 @@ use Rattle.record.specs.declared.Destination.the-variants.{One, Pair, First, Se
 use Rattle.record.specs.declared.Instruction.{Instruction}
 use Rattle.record.specs.declared.Instruction.the-variants.{Arithmetic, Vset, VsetLanes, ArithmeticLanes, Set, Setp, Selp, Slct}
 use Rattle.record.specs.declared.Record.{Record}
+use Rattle.record.specs.declared.Target.{Target}
 use Rattle.signs.specs.Lists.{Listed}
 use Rattle.signs.specs.Lists.Listed.{here, later}
 use Rattle.rules.specs.Numbers.{wordSize, laneSize, lanes, partAt, lowOf, bit}
 use Rattle.rules.specs.Execution.{arithmeticOf, vsetOf, comparisonOf, setOf, selpOf, slctOf, lanesOf, arithmeticLanesOf, maskAt, laneHolds, count, laneResult, sumZ, boolOf}
+use Rattle.rules.specs.Targets.{Allowed, flushes, slctTypeAt}
 use Rattle.rules.specs.Executing.{placesOf, operandOf, selectedWord, formC, formSources, conditionHolds, combinationSources, comparisonSources, scalarSources, kept, Write, write, writes, formD, destinationWrites, destinationPlaces, destinations, sources, guardSources, put, putAll, after, predHolds, combinedOf, testOf, Outcome, run, guardHolds, sizeFits, sizesFit, Admitted}
 use Rattle.laws.specs.OutcomeLaws.{executes, run-cases}
 use Rattle.laws.specs.PlaceLaws.{legal-parts, legal-inside}
 use Rattle.laws.specs.ExecutionLaws.{masked-gets-bit, unmasked-keeps-c, add-counts, masked-gets-low, unmasked-keeps-lane, add-sums}
 
 -- what holds of the files lent, and of those after the instruction, holds of what is left
-pub left-by : (x : Record) (f : Files) (P : Files → Type 0) → P f → P (after (x .instruction) f) → P (run x f .files)
-left-by x f P h k = run-cases x f (λ (o : Outcome). P (o .files)) h h h k h
+pub left-by : (target : Target) (x : Record) (f : Files) (P : Files → Type 0) → P f → P (after target (x .instruction) f) → P (run target x f .files)
+left-by target x f P h k = run-cases target x f (λ (o : Outcome). P (o .files)) h h h h k h
 
 -- ==== one file and another
 
@@ -87,16 +89,16 @@ destination-places (First a) t u = refl
 destination-places (Second b) t u = refl
 
 -- the places that are written are the record's destinations, whatever the files hold
-pub writes-destinations : (i : Instruction) (f : Files) → placesOf (writes i f) ≡ destinations i
+pub writes-destinations : (target : Target) (i : Instruction) (f : Files) → placesOf (writes target i f) ≡ destinations i
 unfolding writes
-writes-destinations (Arithmetic op dtype sat s) f = refl
-writes-destinations (Vset cmp s) f = refl
-writes-destinations (VsetLanes cmp l) f = refl
-writes-destinations (ArithmeticLanes op dtype sat l) f = refl
-writes-destinations (Set dtype d s) f = refl
-writes-destinations (Setp d s) f = destination-places d _ _
-writes-destinations (Selp s c) f = refl
-writes-destinations (Slct ctype s c) f = refl
+writes-destinations target (Arithmetic op dtype sat s) f = refl
+writes-destinations target (Vset cmp s) f = refl
+writes-destinations target (VsetLanes cmp l) f = refl
+writes-destinations target (ArithmeticLanes op dtype sat l) f = refl
+writes-destinations target (Set dtype d s) f = refl
+writes-destinations target (Setp d s) f = destination-places d _ _
+writes-destinations target (Selp s c) f = refl
+writes-destinations target (Slct ctype s c) f = refl
 
 other : (xs : List ℕ) (m n v : ℕ) → (m ≡ n → ⊥) → getD (set xs m v) n 0 ≡ getD xs n 0
 other xs m n v h = getD-set-other xs m n v 0 (λ e. h (sym e))
@@ -115,11 +117,11 @@ put-all-other q (w ∷ ws) f h =
     put-all-other q ws (put (w .place) (w .value) f) (λ e. h (later e)) ∙ put-other q (w .place) (w .value) f (λ e. h (here (sym e)))
 
 -- a place that is no destination of the record holds what it held
-pub others-stay : (x : Record) (f : Files) (q : Place) → (Listed q (destinations (x .instruction)) → ⊥) → at (run x f .files) q ≡ at f q
+pub others-stay : (target : Target) (x : Record) (f : Files) (q : Place) → (Listed q (destinations (x .instruction)) → ⊥) → at (run target x f .files) q ≡ at f q
 unfolding after
-others-stay x f q h =
-    left-by x f (λ (g : Files). at g q ≡ at f q) refl
-    (put-all-other q (writes (x .instruction) f) f (λ e. h (subst (Listed q) (writes-destinations (x .instruction) f) e)))
+others-stay target x f q h =
+    left-by target x f (λ (g : Files). at g q ≡ at f q) refl
+    (put-all-other q (writes target (x .instruction) f) f (λ e. h (subst (Listed q) (writes-destinations target (x .instruction) f) e)))
 
 -- no file becomes longer or shorter
 
@@ -137,9 +139,9 @@ put-all-lengths : (ws : List Write) (f : Files) → SameLengths f (putAll ws f)
 put-all-lengths [] f k = refl
 put-all-lengths (w ∷ ws) f k = put-all-lengths ws (put (w .place) (w .value) f) k ∙ put-lengths (w .place) (w .value) f k
 
-pub lengths-stay : (x : Record) (f : Files) → SameLengths f (run x f .files)
+pub lengths-stay : (target : Target) (x : Record) (f : Files) → SameLengths f (run target x f .files)
 unfolding after
-lengths-stay x f = left-by x f (SameLengths f) (same-lengths f) (put-all-lengths (writes (x .instruction) f) f)
+lengths-stay target x f = left-by target x f (SameLengths f) (same-lengths f) (put-all-lengths (writes target (x .instruction) f) f)
 
 -- ==== nothing but the sources is read
 
@@ -161,17 +163,17 @@ module _ (f g : Files) where
   combined-same Alone t h = refl
   combined-same (With op c) t h = ap (boolOf op t) (condition-same c (h (p (c .pred)) (here refl)))
 
-  test-same : (s : Comparison) → Agree f g (comparisonSources s) → testOf f s ≡ testOf g s
+  test-same : (target : Target) (s : Comparison) → Agree f g (comparisonSources s) → testOf target f s ≡ testOf target g s
   unfolding testOf
-  test-same s h =
-      ap₂ (comparisonOf (s .cmp) (s .ftz) (s .stype)) (h (operandPlace (s .a)) (here refl))
+  test-same target s h =
+      ap₂ (comparisonOf (s .cmp) (flushes target (s .ftz)) (s .stype)) (h (operandPlace (s .a)) (here refl))
       (h (operandPlace (s .b)) (later (here refl)))
 
-  outcome-same : (s : Comparison) → Agree f g (comparisonSources s) → (turn : Bool → Bool)
-      → combinedOf (f .preds) (s .combination) (turn (testOf f s)) ≡ combinedOf (g .preds) (s .combination) (turn (testOf g s))
-  outcome-same s h turn =
-      ap (λ (t : Bool). combinedOf (f .preds) (s .combination) (turn t)) (test-same s h)
-      ∙ combined-same (s .combination) (turn (testOf g s)) (λ q e. h q (later (later e)))
+  outcome-same : (target : Target) (s : Comparison) → Agree f g (comparisonSources s) → (turn : Bool → Bool)
+      → combinedOf (f .preds) (s .combination) (turn (testOf target f s)) ≡ combinedOf (g .preds) (s .combination) (turn (testOf target g s))
+  outcome-same target s h turn =
+      ap (λ (t : Bool). combinedOf (f .preds) (s .combination) (turn t)) (test-same target s h)
+      ∙ combined-same (s .combination) (turn (testOf target g s)) (λ q e. h q (later (later e)))
 
   lanes-same : (l : Lanes) (give : ℕ → ℕ → ℕ → ℕ) → Agree f g (r (l .a) ∷ r (l .b) ∷ r (l .c) ∷ [])
       → write (r (l .d)) (give (at f (r (l .a))) (at f (r (l .b))) (at f (r (l .c)))) ∷ []
@@ -192,16 +194,16 @@ module _ (f g : Files) where
       (h c (later (later (here refl))), h (operandPlace (s .a)) (here refl), h (operandPlace (s .b)) (later (here refl)))
 
   -- files that agree on the sources get the same writes
-  pub reads-sources : (i : Instruction) → Agree f g (sources i) → writes i f ≡ writes i g
+  pub reads-sources : (target : Target) (i : Instruction) → Agree f g (sources i) → writes target i f ≡ writes target i g
   unfolding writes
-  reads-sources (Arithmetic op dtype sat s) h = scalar-same s (arithmeticOf op dtype sat s) h
-  reads-sources (Vset cmp s) h = scalar-same s (vsetOf cmp s) h
-  reads-sources (VsetLanes cmp l) h = lanes-same l (lanesOf cmp l) h
-  reads-sources (ArithmeticLanes op dtype sat l) h = lanes-same l (arithmeticLanesOf op dtype sat l) h
-  reads-sources (Set dtype d s) h = ap (λ (t : Bool). write (r d) (setOf dtype t) ∷ []) (outcome-same s h (λ t. t))
-  reads-sources (Setp d s) h = ap₂ (destinationWrites d) (outcome-same s h (λ t. t)) (outcome-same s h not)
-  reads-sources (Selp s c) h = choice-same s (p c) selpOf h
-  reads-sources (Slct ctype s c) h = choice-same s (r c) (slctOf ctype) h
+  reads-sources target (Arithmetic op dtype sat s) h = scalar-same s (arithmeticOf op dtype sat s) h
+  reads-sources target (Vset cmp s) h = scalar-same s (vsetOf cmp s) h
+  reads-sources target (VsetLanes cmp l) h = lanes-same l (lanesOf cmp l) h
+  reads-sources target (ArithmeticLanes op dtype sat l) h = lanes-same l (arithmeticLanesOf op dtype sat l) h
+  reads-sources target (Set dtype d s) h = ap (λ (t : Bool). write (r d) (setOf dtype t) ∷ []) (outcome-same target s h (λ t. t))
+  reads-sources target (Setp d s) h = ap₂ (destinationWrites d) (outcome-same target s h (λ t. t)) (outcome-same target s h not)
+  reads-sources target (Selp s c) h = choice-same s (p c) selpOf h
+  reads-sources target (Slct ctype s c) h = choice-same s (r c) (slctOf (slctTypeAt target ctype)) h
 
   pub guard-reads-sources : (e : Guard) → Agree f g (guardSources e) → guardHolds (f .preds) e ≡ guardHolds (g .preds) e
   unfolding guardHolds
@@ -294,15 +296,15 @@ destinations-inside : (x : Record) → Legal x → (q : Place) → Listed q (des
 destinations-inside x h q e =
     legal-inside x h q (among-behind (guardSources (x .guard)) _ (among-front (destinations (x .instruction)) (sources (x .instruction)) e))
 
-module _ (x : Record) (f : Files) (legal : Legal x) (admitted : Admitted f) (guard : guardHolds (f .preds) (x .guard) ≡ true) where
+module _ (target : Target) (x : Record) (f : Files) (allowed : Allowed target x) (admitted : Admitted f) (guard : guardHolds (f .preds) (x .guard) ≡ true) where
   -- what is written is there afterwards, in every destination
-  pub holds-written : (w : Write) → Listed w (writes (x .instruction) f) → at (run x f .files) (w .place) ≡ w .value
+  pub holds-written : (w : Write) → Listed w (writes target (x .instruction) f) → at (run target x f .files) (w .place) ≡ w .value
   unfolding after
   holds-written w e =
-      rw (executes x f legal admitted guard)
-      (put-all-holds (writes (x .instruction) f) f (sized f (admitted .sizes))
-      (subst Distinct (sym (writes-destinations (x .instruction) f)) (distinct (x .instruction) (legal-parts x legal .3)))
-      (λ q k. destinations-inside x legal q (subst (Listed q) (writes-destinations (x .instruction) f) k)) w e)
+      rw (executes target x f allowed admitted guard)
+      (put-all-holds (writes target (x .instruction) f) f (sized f (admitted .sizes))
+      (subst Distinct (sym (writes-destinations target (x .instruction) f)) (distinct (x .instruction) (legal-parts x (allowed .legal) .3)))
+      (λ q k. destinations-inside x (allowed .legal) q (subst (Listed q) (writes-destinations target (x .instruction) f) k)) w e)
 
   -- ---- vset2 and vset4, lane by lane
 
@@ -317,45 +319,45 @@ module _ (x : Record) (f : Files) (legal : Legal x) (admitted : Admitted f) (gua
   c-of l = at f (r (l .c))
 
   module _ (cmp : Cmp6) (l : Lanes) (is : x .instruction ≡ VsetLanes cmp l) where
-    pub vset-lanes-hold : at (run x f .files) (r (l .d)) ≡ lanesOf cmp l (a-of l) (b-of l) (c-of l)
+    pub vset-lanes-hold : at (run target x f .files) (r (l .d)) ≡ lanesOf cmp l (a-of l) (b-of l) (c-of l)
     unfolding writes
     vset-lanes-hold = holds-written (write (r (l .d)) (lanesOf cmp l (a-of l) (b-of l) (c-of l))) (rw is (here refl))
 
     -- a masked lane gets 1 or 0 as its comparison holds
     pub masked-lane : l .add ≡ false → (i : ℕ) → i < lanes (l .width) → maskAt (l .mask) i ≡ true
-        → partAt (laneSize (l .width)) (at (run x f .files) (r (l .d))) i ≡ bit (laneHolds cmp l (a-of l) (b-of l) i)
+        → partAt (laneSize (l .width)) (at (run target x f .files) (r (l .d))) i ≡ bit (laneHolds cmp l (a-of l) (b-of l) i)
     masked-lane plain i h m = rw vset-lanes-hold (masked-gets-bit cmp l (a-of l) (b-of l) (c-of l) plain i h m)
 
     -- a lane that the mask does not name keeps c's part
     pub unmasked-lane : l .add ≡ false → (i : ℕ) → i < lanes (l .width) → maskAt (l .mask) i ≡ false
-        → partAt (laneSize (l .width)) (at (run x f .files) (r (l .d))) i ≡ partAt (laneSize (l .width)) (c-of l) i
+        → partAt (laneSize (l .width)) (at (run target x f .files) (r (l .d))) i ≡ partAt (laneSize (l .width)) (c-of l) i
     unmasked-lane plain i h m = rw vset-lanes-hold (unmasked-keeps-c cmp l (a-of l) (b-of l) (c-of l) plain i h m)
 
     -- with `add`, d is c plus the number of masked lanes that hold, modulo 2^32
     pub add-counted : l .add ≡ true
-        → at (run x f .files) (r (l .d)) ≡ (c-of l + count (lanes (l .width)) (λ i. maskAt (l .mask) i && laneHolds cmp l (a-of l) (b-of l) i)) % wordSize
+        → at (run target x f .files) (r (l .d)) ≡ (c-of l + count (lanes (l .width)) (λ i. maskAt (l .mask) i && laneHolds cmp l (a-of l) (b-of l) i)) % wordSize
     add-counted e = rw vset-lanes-hold (add-counts cmp l (a-of l) (b-of l) (c-of l) e)
 
   -- ---- the twelve of T-01, lane by lane
 
   module _ (op : LaneArith) (dtype : VideoType) (sat : Bool) (l : Lanes) (is : x .instruction ≡ ArithmeticLanes op dtype sat l) where
-    pub lanes-hold : at (run x f .files) (r (l .d)) ≡ arithmeticLanesOf op dtype sat l (a-of l) (b-of l) (c-of l)
+    pub lanes-hold : at (run target x f .files) (r (l .d)) ≡ arithmeticLanesOf op dtype sat l (a-of l) (b-of l) (c-of l)
     unfolding writes
     lanes-hold = holds-written (write (r (l .d)) (arithmeticLanesOf op dtype sat l (a-of l) (b-of l) (c-of l))) (rw is (here refl))
 
     -- a masked lane gets the low bits of its result
     pub masked-result : l .add ≡ false → (i : ℕ) → i < lanes (l .width) → maskAt (l .mask) i ≡ true
-        → partAt (laneSize (l .width)) (at (run x f .files) (r (l .d))) i ≡ lowOf (laneSize (l .width)) (laneResult op dtype sat l (a-of l) (b-of l) i)
+        → partAt (laneSize (l .width)) (at (run target x f .files) (r (l .d))) i ≡ lowOf (laneSize (l .width)) (laneResult op dtype sat l (a-of l) (b-of l) i)
     masked-result plain i h m = rw lanes-hold (masked-gets-low op dtype sat l (a-of l) (b-of l) (c-of l) plain i h m)
 
     -- a lane that the mask does not name keeps c's part
     pub unmasked-result : l .add ≡ false → (i : ℕ) → i < lanes (l .width) → maskAt (l .mask) i ≡ false
-        → partAt (laneSize (l .width)) (at (run x f .files) (r (l .d))) i ≡ partAt (laneSize (l .width)) (c-of l) i
+        → partAt (laneSize (l .width)) (at (run target x f .files) (r (l .d))) i ≡ partAt (laneSize (l .width)) (c-of l) i
     unmasked-result plain i h m = rw lanes-hold (unmasked-keeps-lane op dtype sat l (a-of l) (b-of l) (c-of l) plain i h m)
 
     -- with `add`, d is c plus the exact results of the masked lanes, modulo 2^32
     pub add-summed : l .add ≡ true
-        → at (run x f .files) (r (l .d))
+        → at (run target x f .files) (r (l .d))
         ≡ lowOf wordSize (pos (c-of l) +ℤ sumZ (lanes (l .width)) (λ i. cond (maskAt (l .mask) i) (laneResult op dtype sat l (a-of l) (b-of l) i) (pos 0)))
     add-summed e = rw lanes-hold (add-sums op dtype sat l (a-of l) (b-of l) (c-of l) e)
 
@@ -363,38 +365,38 @@ module _ (x : Record) (f : Files) (legal : Legal x) (admitted : Admitted f) (gua
 
   module _ (a : Pred) (s : Comparison) where
     -- BoolOp(t, c) alone
-    pub one-holds : x .instruction ≡ Setp (One a) s → at (run x f .files) (p a) ≡ bit (combinedOf (f .preds) (s .combination) (testOf f s))
+    pub one-holds : x .instruction ≡ Setp (One a) s → at (run target x f .files) (p a) ≡ bit (combinedOf (f .preds) (s .combination) (testOf target f s))
     unfolding writes
-    one-holds is = holds-written (write (p a) (bit (combinedOf (f .preds) (s .combination) (testOf f s)))) (rw is (here refl))
+    one-holds is = holds-written (write (p a) (bit (combinedOf (f .preds) (s .combination) (testOf target f s)))) (rw is (here refl))
 
-    pub first-holds : x .instruction ≡ Setp (First a) s → at (run x f .files) (p a) ≡ bit (combinedOf (f .preds) (s .combination) (testOf f s))
+    pub first-holds : x .instruction ≡ Setp (First a) s → at (run target x f .files) (p a) ≡ bit (combinedOf (f .preds) (s .combination) (testOf target f s))
     unfolding writes
-    first-holds is = holds-written (write (p a) (bit (combinedOf (f .preds) (s .combination) (testOf f s)))) (rw is (here refl))
+    first-holds is = holds-written (write (p a) (bit (combinedOf (f .preds) (s .combination) (testOf target f s)))) (rw is (here refl))
 
     -- BoolOp(not t, c) alone
     pub second-holds : x .instruction ≡ Setp (Second a) s
-        → at (run x f .files) (p a) ≡ bit (combinedOf (f .preds) (s .combination) (not (testOf f s)))
+        → at (run target x f .files) (p a) ≡ bit (combinedOf (f .preds) (s .combination) (not (testOf target f s)))
     unfolding writes
     second-holds is =
-        holds-written (write (p a) (bit (combinedOf (f .preds) (s .combination) (not (testOf f s))))) (rw is (here refl))
+        holds-written (write (p a) (bit (combinedOf (f .preds) (s .combination) (not (testOf target f s))))) (rw is (here refl))
 
   -- ---- setp's two places, from the predicates before either is written
 
   module _ (a b : Pred) (s : Comparison) (is : x .instruction ≡ Setp (Pair a b) s) where
     -- BoolOp(t, c)
-    pub first-place : at (run x f .files) (p a) ≡ bit (combinedOf (f .preds) (s .combination) (testOf f s))
+    pub first-place : at (run target x f .files) (p a) ≡ bit (combinedOf (f .preds) (s .combination) (testOf target f s))
     unfolding writes
-    first-place = holds-written (write (p a) (bit (combinedOf (f .preds) (s .combination) (testOf f s)))) (rw is (here refl))
+    first-place = holds-written (write (p a) (bit (combinedOf (f .preds) (s .combination) (testOf target f s)))) (rw is (here refl))
 
     -- BoolOp(not t, c), also where c is the first place
-    pub second-place : at (run x f .files) (p b) ≡ bit (combinedOf (f .preds) (s .combination) (not (testOf f s)))
+    pub second-place : at (run target x f .files) (p b) ≡ bit (combinedOf (f .preds) (s .combination) (not (testOf target f s)))
     unfolding writes
     second-place =
-        holds-written (write (p b) (bit (combinedOf (f .preds) (s .combination) (not (testOf f s))))) (rw is (later (here refl)))
+        holds-written (write (p b) (bit (combinedOf (f .preds) (s .combination) (not (testOf target f s))))) (rw is (later (here refl)))
 
     -- c is read before a predicate is written: where c is the first place, the second has BoolOp(not t, c) of c before
     pub c-read-first : (op : BoolOp) (inverted : Bool) → s .combination ≡ With op (record { inverted = inverted; pred = a })
-        → at (run x f .files) (p b)
-        ≡ bit (boolOf op (not (testOf f s)) (cond inverted (not (predHolds (f .preds) a)) (predHolds (f .preds) a)))
+        → at (run target x f .files) (p b)
+        ≡ bit (boolOf op (not (testOf target f s)) (cond inverted (not (predHolds (f .preds) a)) (predHolds (f .preds) a)))
     unfolding combinedOf
-    c-read-first op inverted e = second-place ∙ ap (λ (c : Combination). bit (combinedOf (f .preds) c (not (testOf f s)))) e
+    c-read-first op inverted e = second-place ∙ ap (λ (c : Combination). bit (combinedOf (f .preds) c (not (testOf target f s)))) e

@@ -301,3 +301,11 @@ pub struct Record {
     pub guard: Guard,
     pub instruction: Instruction,
 }
+
+// The card that a line is read for and worked on: sm_10, sm_13, sm_20, sm_30.
+pub enum Target {
+    Sm10,
+    Sm13,
+    Sm20,
+    Sm30,
+}

@@ -1,4 +1,4 @@
--- Document 01, "Refusal numbers" for executing: what a record reads and writes, refusals 8, 10, 11, done and skipped. Of the bullets on
+-- Document 01, "Refusal numbers" for executing, with T-07's 12: what a record reads and writes, refusals 8, 12, 10, 11, done and skipped. Of the bullets on
 -- execution those on places and on `!` stand here.
 use Prim.Native.Nat.{ℕ, _%_}
 use mathlib.Core.Path.{_≡_}
@@ -30,7 +30,9 @@ use Rattle.record.specs.declared.Destination.the-variants.{One, Pair, First, Se
 use Rattle.record.specs.declared.Instruction.{Instruction}
 use Rattle.record.specs.declared.Instruction.the-variants.{Arithmetic, Vset, VsetLanes, ArithmeticLanes, Set, Setp, Selp, Slct}
 use Rattle.record.specs.declared.Record.{Record}
+use Rattle.record.specs.declared.Target.{Target}
 use Rattle.rules.specs.Numbers.{bit, wordSize, halfSize}
+use Rattle.rules.specs.Targets.{allows, flushes, slctTypeAt}
 use Rattle.rules.specs.Execution.{arithmeticOf, vsetOf, lanesOf, arithmeticLanesOf, comparisonOf, boolOf, setOf, selpOf, slctOf}
 
 -- ==== what is read, each from the file that it stands in
@@ -66,9 +68,9 @@ unfoldable pub combinedOf : List ℕ → Combination → Bool → Bool
 combinedOf preds Alone t = t
 combinedOf preds (With op c) t = boolOf op t (conditionHolds preds c)
 
--- t of set and setp
-unfoldable pub testOf : Files → Comparison → Bool
-testOf f s = comparisonOf (s .cmp) (s .ftz) (s .stype) (operandOf f (s .a)) (operandOf f (s .b))
+-- t of set and setp; T-07: the target says whether it flushes without `ftz`, which is of f32 alone (valueOf)
+unfoldable pub testOf : Target → Files → Comparison → Bool
+testOf target f s = comparisonOf (s .cmp) (flushes target (s .ftz)) (s .stype) (operandOf f (s .a)) (operandOf f (s .b))
 
 -- ==== which places a record names, from the record alone
 
@@ -156,31 +158,31 @@ destinationWrites (Pair a b) first second = write (p a) (bit first) ∷ write (p
 destinationWrites (First a) first second = write (p a) (bit first) ∷ []
 destinationWrites (Second b) first second = write (p b) (bit second) ∷ []
 
-unfoldable pub writes : Instruction → Files → List Write
-writes (Arithmetic op dtype sat s) f =
+unfoldable pub writes : Target → Instruction → Files → List Write
+writes target (Arithmetic op dtype sat s) f =
     write (r (formD (s .form)))
     (arithmeticOf op dtype sat s (wordOf (f .words) (selectedWord (s .a))) (wordOf (f .words) (selectedWord (s .b))) (formC (f .words) (s .form)))
     ∷ []
-writes (Vset cmp s) f =
+writes target (Vset cmp s) f =
     write (r (formD (s .form)))
     (vsetOf cmp s (wordOf (f .words) (selectedWord (s .a))) (wordOf (f .words) (selectedWord (s .b))) (formC (f .words) (s .form)))
     ∷ []
-writes (VsetLanes cmp l) f =
+writes target (VsetLanes cmp l) f =
     write (r (l .d)) (lanesOf cmp l (wordOf (f .words) (l .a)) (wordOf (f .words) (l .b)) (wordOf (f .words) (l .c))) ∷ []
-writes (ArithmeticLanes op dtype sat l) f =
+writes target (ArithmeticLanes op dtype sat l) f =
     write (r (l .d)) (arithmeticLanesOf op dtype sat l (wordOf (f .words) (l .a)) (wordOf (f .words) (l .b)) (wordOf (f .words) (l .c))) ∷ []
-writes (Set dtype d s) f =
-    write (r d) (setOf dtype (combinedOf (f .preds) (s .combination) (testOf f s))) ∷ []
-writes (Setp d s) f =
-    destinationWrites d (combinedOf (f .preds) (s .combination) (testOf f s))
-    (combinedOf (f .preds) (s .combination) (not (testOf f s)))
-writes (Selp s c) f =
+writes target (Set dtype d s) f =
+    write (r d) (setOf dtype (combinedOf (f .preds) (s .combination) (testOf target f s))) ∷ []
+writes target (Setp d s) f =
+    destinationWrites d (combinedOf (f .preds) (s .combination) (testOf target f s))
+    (combinedOf (f .preds) (s .combination) (not (testOf target f s)))
+writes target (Selp s c) f =
     write (operandPlace (s .d))
     (kept (s .d) (selpOf (predOf (f .preds) c) (operandOf f (s .a)) (operandOf f (s .b))))
     ∷ []
-writes (Slct ctype s c) f =
+writes target (Slct ctype s c) f =
     write (operandPlace (s .d))
-    (kept (s .d) (slctOf ctype (wordOf (f .words) c) (operandOf f (s .a)) (operandOf f (s .b))))
+    (kept (s .d) (slctOf (slctTypeAt target ctype) (wordOf (f .words) c) (operandOf f (s .a)) (operandOf f (s .b))))
     ∷ []
 
 abbrev pub put : Place → ℕ → Files → Files
@@ -191,8 +193,8 @@ putAll [] f = f
 putAll (w ∷ ws) f = putAll ws (put (w .place) (w .value) f)
 
 -- All sources are read before any destination is written
-unfoldable pub after : Instruction → Files → Files
-after i f = putAll (writes i f) f
+unfoldable pub after : Target → Instruction → Files → Files
+after target i f = putAll (writes target i f) f
 
 -- ==== executing a record
 
@@ -231,11 +233,13 @@ pub record Outcome : Type 0 where
 abbrev pub outcome : Answer → Files → Outcome
 outcome a f = record { answer = a; files = f }
 
--- Executing: 8, 10, 11, each looked at only when the earlier ones don't apply. Lent memory is unchanged by a refusal
-unfoldable pub run : Record → Files → Outcome
-run x f =
+-- Executing: 8, 10, 11, each looked at only when the earlier ones don't apply; T-07: 12, target too old, straight after 8. Lent memory is
+-- unchanged by a refusal
+unfoldable pub run : Target → Record → Files → Outcome
+run target x f =
     cond (not (isLegal x)) (outcome (refused 8) f)
+    (cond (not (allows target x)) (outcome (refused 12) f)
     (cond (not (sizesFit f)) (outcome (refused 10) f)
     (cond (not (predsFit (f .preds))) (outcome (refused 11) f)
-    (cond (guardHolds (f .preds) (x .guard)) (outcome done (after (x .instruction) f))
-    (outcome skipped f))))
+    (cond (guardHolds (f .preds) (x .guard)) (outcome done (after target (x .instruction) f))
+    (outcome skipped f)))))

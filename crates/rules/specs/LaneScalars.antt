@@ -6,7 +6,6 @@ use mathlib.Core.Bool.{Bool, true, false, cond}
 use mathlib.Core.List.{List, [], _∷_, _++_}
 use lib.Dec.{ltb}
 use Rattle.record.specs.Registers.{Files}
-use Rattle.record.specs.Refusals.{Legal}
 use Rattle.record.specs.declared.Word.{Word}
 use Rattle.record.specs.declared.VideoType.{VideoType}
 use Rattle.record.specs.declared.Cmp6.{Cmp6}
@@ -30,8 +29,10 @@ use Rattle.record.specs.declared.Guard.{Guard}
 use Rattle.record.specs.declared.Instruction.{Instruction}
 use Rattle.record.specs.declared.Instruction.the-variants.{Arithmetic, Vset, VsetLanes, ArithmeticLanes}
 use Rattle.record.specs.declared.Record.{Record}
+use Rattle.record.specs.declared.Target.{Target}
 use Rattle.rules.specs.Numbers.{wordSize, laneSize, lanes, partAt, exactOf, isSigned, lowOf}
 use Rattle.rules.specs.Execution.{digitAt, maskAt}
+use Rattle.rules.specs.Targets.{Allowed}
 use Rattle.rules.specs.Executing.{Answer, run}
 
 -- ==== one lane
@@ -85,9 +86,9 @@ laneScalar l i form = record {
 abbrev pub laneRecord : Guard → Operation → Lanes → ℕ → Form → Record
 laneRecord g o l i form = record { guard = g; instruction = scalarOf o (laneScalar l i form) }
 
--- y is a legal line of scalar video under guard g
-pub record ScalarLine (g : Guard) (y : Record) : Type 0 where
-  pub legal : Legal y
+-- y is a line of scalar video under guard g, legal and allowed at the target
+pub record ScalarLine (target : Target) (g : Guard) (y : Record) : Type 0 where
+  pub allowed : Allowed target y
   pub guarded : y .guard ≡ g
   pub o : Operation
   pub s : Scalar
@@ -143,10 +144,10 @@ abbrev pub clampedApart : Guard → Arith → VideoType → Lanes → Word → W
 clampedApart g op dtype l t e = allLanes l (clampedLines g op dtype l t e) e
 
 -- the files after the lines, one after another, and what each answers
-abbrev pub runAll : List Record → Files → Files
-runAll [] f = f
-runAll (x ∷ xs) f = runAll xs (run x f .files)
+abbrev pub runAll : Target → List Record → Files → Files
+runAll target [] f = f
+runAll target (x ∷ xs) f = runAll target xs (run target x f .files)
 
-abbrev pub answersAll : List Record → Files → List Answer
-answersAll [] f = []
-answersAll (x ∷ xs) f = run x f .answer ∷ answersAll xs (run x f .files)
+abbrev pub answersAll : Target → List Record → Files → List Answer
+answersAll target [] f = []
+answersAll target (x ∷ xs) f = run target x f .answer ∷ answersAll target xs (run target x f .files)

@@ -3,6 +3,7 @@ pub mod Names
 pub mod Spelling
 pub mod Grammar
 pub mod StandardLine
+pub mod Targets
 pub mod BytePlaces
 pub mod Reading
 pub mod Writing
