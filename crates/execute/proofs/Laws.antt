@@ -18,8 +18,10 @@ use Rattle.record.specs.declared.Operand.{Operand}
 use Rattle.record.specs.declared.Instruction.{Instruction}
 use Rattle.record.specs.declared.Instruction.the-variants.{Arithmetic, Vset, VsetLanes, ArithmeticLanes, Set, Setp, Selp, Slct}
 use Rattle.record.specs.declared.Record.{Record}
+use Rattle.record.specs.declared.Target.{Target}
 use Rattle.record.specs.Registers.{Files, r, operandPlace}
 use Rattle.rules.specs.Execution.{comparisonOf, setOf, selpOf, slctOf}
+use Rattle.rules.specs.Targets.{allows, flushes, slctTypeAt}
 use Rattle.rules.specs.Executing.{wordOf, predOf, operandOf, combinedOf, testOf, kept, destinationWrites, writes, put, putAll, after, sizesFit, predsFit, guardHolds, Outcome, done, skipped, refused, outcome, run}
 use Rattle.refusals.specs.Order.{firstExecuting}
 use Rattle.execute.specs.Mirror.{operandIn, testIn, operandWrite, writeOf, predsWith, written}
@@ -41,9 +43,9 @@ operand-in f (Operand.Word w) = refl
 operand-in f (Operand.Half h) = refl
 operand-in f (Operand.Double d) = refl
 
-test-in : (f : Files) (s : Comparison) → testIn (f .words) (f .halves) (f .doubles) s ≡ testOf f s
+test-in : (target : Target) (f : Files) (s : Comparison) → testIn target (f .words) (f .halves) (f .doubles) s ≡ testOf target f s
 unfolding testIn testOf
-test-in f s = ap₂ (comparisonOf (s .cmp) (s .ftz) (s .stype)) (operand-in f (s .a)) (operand-in f (s .b))
+test-in target f s = ap₂ (comparisonOf (s .cmp) (flushes target (s .ftz)) (s .stype)) (operand-in f (s .a)) (operand-in f (s .b))
 
 -- ---- writes
 
@@ -66,18 +68,18 @@ destination-written (Pair a b) p q f = refl
 destination-written (First a) p q f = refl
 destination-written (Second b) p q f = refl
 
-pub instruction-written : (i : Instruction) (f : Files) → written (writeOf i (f .words) (f .halves) (f .doubles) (f .preds)) f ≡ after i f
+pub instruction-written : (target : Target) (i : Instruction) (f : Files) → written (writeOf target i (f .words) (f .halves) (f .doubles) (f .preds)) f ≡ after target i f
 unfolding writeOf written after writes
-instruction-written (Arithmetic op dtype sat s) f = refl
-instruction-written (Vset cmp s) f = refl
-instruction-written (VsetLanes cmp l) f = refl
-instruction-written (ArithmeticLanes op dtype sat l) f = refl
-instruction-written (Set dtype d s) f = ap (λ (t : Bool). put (r d) (setOf dtype (combinedOf (f .preds) (s .combination) t)) f) (test-in f s)
-instruction-written (Setp d s) f =
+instruction-written target (Arithmetic op dtype sat s) f = refl
+instruction-written target (Vset cmp s) f = refl
+instruction-written target (VsetLanes cmp l) f = refl
+instruction-written target (ArithmeticLanes op dtype sat l) f = refl
+instruction-written target (Set dtype d s) f = ap (λ (t : Bool). put (r d) (setOf dtype (combinedOf (f .preds) (s .combination) t)) f) (test-in target f s)
+instruction-written target (Setp d s) f =
     destination-written d _ _ f
-    ∙ ap (λ (t : Bool). putAll (destinationWrites d (combinedOf (f .preds) (s .combination) t) (combinedOf (f .preds) (s .combination) (not t))) f) (test-in f s)
-instruction-written (Selp s c) f = choice-written s f (selpOf (predOf (f .preds) c))
-instruction-written (Slct ctype s c) f = choice-written s f (slctOf ctype (wordOf (f .words) c))
+    ∙ ap (λ (t : Bool). putAll (destinationWrites d (combinedOf (f .preds) (s .combination) t) (combinedOf (f .preds) (s .combination) (not t))) f) (test-in target f s)
+instruction-written target (Selp s c) f = choice-written s f (selpOf (predOf (f .preds) c))
+instruction-written target (Slct ctype s c) f = choice-written s f (slctOf (slctTypeAt target ctype) (wordOf (f .words) c))
 
 -- ---- predicates from i on: the first is seen, or none is left
 
@@ -98,43 +100,46 @@ bits-end (x ∷ xs) (suc i) h = bits-end xs i (omega arith)
 
 -- ---- outcomes: n is the number that the tests give, 0 for none
 
-module _ (x : Record) (f : Files) where
+module _ (target : Target) (x : Record) (f : Files) where
   abbrev first : ℕ
-  first = firstExecuting (not (isLegal x)) (not (sizesFit f)) (not (predsFit (f .preds)))
+  first = firstExecuting (not (isLegal x)) (not (allows target x)) (not (sizesFit f)) (not (predsFit (f .preds)))
 
   -- what the tests say of the outcome
-  abbrev by-tests : Bool → Bool → Bool → Outcome
-  by-tests a b c =
+  abbrev by-tests : Bool → Bool → Bool → Bool → Outcome
+  by-tests a o b c =
       cond a (outcome (refused 8) f)
+      (cond o (outcome (refused 12) f)
       (cond b (outcome (refused 10) f)
       (cond c (outcome (refused 11) f)
-      (cond (guardHolds (f .preds) (x .guard)) (outcome done (after (x .instruction) f))
-      (outcome skipped f))))
+      (cond (guardHolds (f .preds) (x .guard)) (outcome done (after target (x .instruction) f))
+      (outcome skipped f)))))
 
-  refused-by : (a b c : Bool) (n : ℕ) → n ≡ firstExecuting a b c → (n ≡ 0 → ⊥) → outcome (refused n) f ≡ by-tests a b c
-  refused-by true b c n e h = ap (λ (k : ℕ). outcome (refused k) f) e
-  refused-by false true c n e h = ap (λ (k : ℕ). outcome (refused k) f) e
-  refused-by false false true n e h = ap (λ (k : ℕ). outcome (refused k) f) e
-  refused-by false false false n e h = absurd (h e)
+  refused-by : (a o b c : Bool) (n : ℕ) → n ≡ firstExecuting a o b c → (n ≡ 0 → ⊥) → outcome (refused n) f ≡ by-tests a o b c
+  refused-by true o b c n e h = ap (λ (k : ℕ). outcome (refused k) f) e
+  refused-by false true b c n e h = ap (λ (k : ℕ). outcome (refused k) f) e
+  refused-by false false true c n e h = ap (λ (k : ℕ). outcome (refused k) f) e
+  refused-by false false false true n e h = ap (λ (k : ℕ). outcome (refused k) f) e
+  refused-by false false false false n e h = absurd (h e)
 
-  passed-by : (a b c : Bool) (n : ℕ) → n ≡ firstExecuting a b c → n ≡ 0 → by-tests false false false ≡ by-tests a b c
-  passed-by true b c n e z = absurd (omega arith)
-  passed-by false true c n e z = absurd (omega arith)
-  passed-by false false true n e z = absurd (omega arith)
-  passed-by false false false n e z = refl
+  passed-by : (a o b c : Bool) (n : ℕ) → n ≡ firstExecuting a o b c → n ≡ 0 → by-tests false false false false ≡ by-tests a o b c
+  passed-by true o b c n e z = absurd (omega arith)
+  passed-by false true b c n e z = absurd (omega arith)
+  passed-by false false true c n e z = absurd (omega arith)
+  passed-by false false false true n e z = absurd (omega arith)
+  passed-by false false false false n e z = refl
 
-  pub ends-refused : (n : ℕ) → n ≡ first → (n ≡ 0 → ⊥) → outcome (refused n) f ≡ run x f
+  pub ends-refused : (n : ℕ) → n ≡ first → (n ≡ 0 → ⊥) → outcome (refused n) f ≡ run target x f
   unfolding run
-  ends-refused n e h = refused-by (not (isLegal x)) (not (sizesFit f)) (not (predsFit (f .preds))) n e h
+  ends-refused n e h = refused-by (not (isLegal x)) (not (allows target x)) (not (sizesFit f)) (not (predsFit (f .preds))) n e h
 
-  pub ends-skipped : (n : ℕ) → n ≡ first → n ≡ 0 → guardHolds (f .preds) (x .guard) ≡ false → outcome skipped f ≡ run x f
+  pub ends-skipped : (n : ℕ) → n ≡ first → n ≡ 0 → guardHolds (f .preds) (x .guard) ≡ false → outcome skipped f ≡ run target x f
   unfolding run
   ends-skipped n e z g =
-      let k : outcome skipped f ≡ by-tests false false false = rw g in
-      k ∙ passed-by (not (isLegal x)) (not (sizesFit f)) (not (predsFit (f .preds))) n e z
+      let k : outcome skipped f ≡ by-tests false false false false = rw g in
+      k ∙ passed-by (not (isLegal x)) (not (allows target x)) (not (sizesFit f)) (not (predsFit (f .preds))) n e z
 
-  pub ends-done : {u : Files} (n : ℕ) → n ≡ first → n ≡ 0 → guardHolds (f .preds) (x .guard) ≡ true → u ≡ after (x .instruction) f → outcome done u ≡ run x f
+  pub ends-done : {u : Files} (n : ℕ) → n ≡ first → n ≡ 0 → guardHolds (f .preds) (x .guard) ≡ true → u ≡ after target (x .instruction) f → outcome done u ≡ run target x f
   unfolding run
   ends-done {u} n e z g a =
-      let k : outcome done u ≡ by-tests false false false = rw (g, a) in
-      k ∙ passed-by (not (isLegal x)) (not (sizesFit f)) (not (predsFit (f .preds))) n e z
+      let k : outcome done u ≡ by-tests false false false false = rw (g, a) in
+      k ∙ passed-by (not (isLegal x)) (not (allows target x)) (not (sizesFit f)) (not (predsFit (f .preds))) n e z

@@ -19,12 +19,14 @@ use Rattle.record.specs.declared.Destination.{Destination}
 use Rattle.record.specs.declared.Destination.the-variants.{One, Pair, First, Second}
 use Rattle.record.specs.declared.Operand
 use Rattle.record.specs.declared.Operand.{Operand}
+use Rattle.record.specs.declared.Target.{Target}
 use Rattle.record.specs.declared.Instruction.{Instruction}
 use Rattle.record.specs.declared.Instruction.the-variants.{Arithmetic, Vset, VsetLanes, ArithmeticLanes, Set, Setp, Selp, Slct}
 use Rattle.rules.specs.Numbers.{bit, wordSize, halfSize}
 use Rattle.rules.specs.Execution.{arithmeticOf, vsetOf, lanesOf, arithmeticLanesOf, comparisonOf, setOf, selpOf, slctOf}
 use Rattle.record.specs.declared.File.the-variants.{Words, Halves, Doubles, Preds}
 use Rattle.record.specs.Registers.{Files, withFile, reg}
+use Rattle.rules.specs.Targets.{flushes, slctTypeAt}
 use Rattle.rules.specs.Executing.{wordOf, predOf, selectedWord, formC, formD, combinedOf, put}
 use Rattle.execute.specs.declared.Write
 use Rattle.execute.specs.declared.Write.{Write}
@@ -36,8 +38,8 @@ operandIn words halves doubles (Operand.Word w) = getD words (w .0) 0
 operandIn words halves doubles (Operand.Half h) = getD halves (h .0) 0
 operandIn words halves doubles (Operand.Double d) = getD doubles (d .0) 0
 
-unfoldable pub testIn : List ℕ → List ℕ → List ℕ → Comparison → Bool
-testIn words halves doubles s = comparisonOf (s .cmp) (s .ftz) (s .stype) (operandIn words halves doubles (s .a)) (operandIn words halves doubles (s .b))
+unfoldable pub testIn : Target → List ℕ → List ℕ → List ℕ → Comparison → Bool
+testIn target words halves doubles s = comparisonOf (s .cmp) (flushes target (s .ftz)) (s .stype) (operandIn words halves doubles (s .a)) (operandIn words halves doubles (s .b))
 
 -- ---- what each kind of instruction writes
 
@@ -62,12 +64,12 @@ abbrev pub arithmeticLanesWrite : LaneArith → VideoType → Bool → Lanes →
 arithmeticLanesWrite op dtype sat l words =
     Write.Word (l .d) (arithmeticLanesOf op dtype sat l (wordOf words (l .a)) (wordOf words (l .b)) (wordOf words (l .c)))
 
-abbrev pub setWrite : SetType → Word → Comparison → List ℕ → List ℕ → List ℕ → List ℕ → Write
-setWrite dtype d s words halves doubles preds = Write.Word d (setOf dtype (combinedOf preds (s .combination) (testIn words halves doubles s)))
+abbrev pub setWrite : Target → SetType → Word → Comparison → List ℕ → List ℕ → List ℕ → List ℕ → Write
+setWrite target dtype d s words halves doubles preds = Write.Word d (setOf dtype (combinedOf preds (s .combination) (testIn target words halves doubles s)))
 
-abbrev pub setpWrite : Destination → Comparison → List ℕ → List ℕ → List ℕ → List ℕ → Write
-setpWrite d s words halves doubles preds =
-    Write.Preds d (combinedOf preds (s .combination) (testIn words halves doubles s)) (combinedOf preds (s .combination) (not (testIn words halves doubles s)))
+abbrev pub setpWrite : Target → Destination → Comparison → List ℕ → List ℕ → List ℕ → List ℕ → Write
+setpWrite target d s words halves doubles preds =
+    Write.Preds d (combinedOf preds (s .combination) (testIn target words halves doubles s)) (combinedOf preds (s .combination) (not (testIn target words halves doubles s)))
 
 -- what selp and slct choose of a and b
 abbrev pub eitherOf : Bool → Choice → List ℕ → List ℕ → List ℕ → ℕ
@@ -76,18 +78,18 @@ eitherOf first s words halves doubles = cond first (operandIn words halves doubl
 abbrev pub selpWrite : Pred → Choice → List ℕ → List ℕ → List ℕ → List ℕ → Write
 selpWrite c s words halves doubles preds = operandWrite (s .d) (selpOf (predOf preds c) (operandIn words halves doubles (s .a)) (operandIn words halves doubles (s .b)))
 
-abbrev pub slctWrite : SlctType → Word → Choice → List ℕ → List ℕ → List ℕ → Write
-slctWrite ctype c s words halves doubles = operandWrite (s .d) (slctOf ctype (wordOf words c) (operandIn words halves doubles (s .a)) (operandIn words halves doubles (s .b)))
+abbrev pub slctWrite : Target → SlctType → Word → Choice → List ℕ → List ℕ → List ℕ → Write
+slctWrite target ctype c s words halves doubles = operandWrite (s .d) (slctOf (slctTypeAt target ctype) (wordOf words c) (operandIn words halves doubles (s .a)) (operandIn words halves doubles (s .b)))
 
-unfoldable pub writeOf : Instruction → List ℕ → List ℕ → List ℕ → List ℕ → Write
-writeOf (Arithmetic op dtype sat s) words halves doubles preds = arithmeticWrite op dtype sat s words
-writeOf (Vset cmp s) words halves doubles preds = vsetWrite cmp s words
-writeOf (VsetLanes cmp l) words halves doubles preds = lanesWrite cmp l words
-writeOf (ArithmeticLanes op dtype sat l) words halves doubles preds = arithmeticLanesWrite op dtype sat l words
-writeOf (Set dtype d s) words halves doubles preds = setWrite dtype d s words halves doubles preds
-writeOf (Setp d s) words halves doubles preds = setpWrite d s words halves doubles preds
-writeOf (Selp s c) words halves doubles preds = selpWrite c s words halves doubles preds
-writeOf (Slct ctype s c) words halves doubles preds = slctWrite ctype c s words halves doubles
+unfoldable pub writeOf : Target → Instruction → List ℕ → List ℕ → List ℕ → List ℕ → Write
+writeOf target (Arithmetic op dtype sat s) words halves doubles preds = arithmeticWrite op dtype sat s words
+writeOf target (Vset cmp s) words halves doubles preds = vsetWrite cmp s words
+writeOf target (VsetLanes cmp l) words halves doubles preds = lanesWrite cmp l words
+writeOf target (ArithmeticLanes op dtype sat l) words halves doubles preds = arithmeticLanesWrite op dtype sat l words
+writeOf target (Set dtype d s) words halves doubles preds = setWrite target dtype d s words halves doubles preds
+writeOf target (Setp d s) words halves doubles preds = setpWrite target d s words halves doubles preds
+writeOf target (Selp s c) words halves doubles preds = selpWrite c s words halves doubles preds
+writeOf target (Slct ctype s c) words halves doubles preds = slctWrite target ctype c s words halves doubles
 
 -- ---- what the files hold after it
 

@@ -20,6 +20,7 @@ use record::Scalar;
 use record::Selected;
 use record::SetType;
 use record::SlctType;
+use record::Target;
 use record::VideoType;
 use record::Word;
 ghost use mathlib.Core.Path.{_≡_};
@@ -209,8 +210,8 @@ fn combined(c: Combination, t: bool, preds: &[u8]) -> bool
     }
 }
 
-fn test(s: Comparison, words: &[u32], halves: &[u16], doubles: &[u64]) -> bool
-    ensures { λ r. ⌜ r ≡ testIn (now (words .entry)) (now (halves .entry)) (now (doubles .entry)) s ⌝ }
+fn test(target: Target, s: Comparison, words: &[u32], halves: &[u16], doubles: &[u64]) -> bool
+    ensures { λ r. ⌜ r ≡ testIn target (now (words .entry)) (now (halves .entry)) (now (doubles .entry)) s ⌝ }
 {
     let op = s.cmp;
     let t = s.stype;
@@ -218,10 +219,11 @@ fn test(s: Comparison, words: &[u32], halves: &[u16], doubles: &[u64]) -> bool
     let b = s.b;
     let x = operand(a, words, halves, doubles);
     let y = operand(b, words, halves, doubles);
-    compare::comparison(op, s.ftz, t, x, y)
+    compare::comparison(op, targets::flushes(target, s.ftz), t, x, y)
 }
 
 fn set_write(
+    target: Target,
     dtype: SetType,
     d: Word,
     s: Comparison,
@@ -230,10 +232,10 @@ fn set_write(
     doubles: &[u64],
     preds: &[u8],
 ) -> Write
-    ensures { λ r. ⌜ r ≡ setWrite dtype d s (now (words .entry)) (now (halves .entry)) (now (doubles .entry)) (now (preds .entry)) ⌝ }
+    ensures { λ r. ⌜ r ≡ setWrite target dtype d s (now (words .entry)) (now (halves .entry)) (now (doubles .entry)) (now (preds .entry)) ⌝ }
 {
     let combination = s.combination;
-    let t = test(s, words, halves, doubles);
+    let t = test(target, s, words, halves, doubles);
     Write::Word(
         d,
         compare::set_value(dtype, combined(combination, t, preds)),
@@ -241,6 +243,7 @@ fn set_write(
 }
 
 fn setp_write(
+    target: Target,
     d: Destination,
     s: Comparison,
     words: &[u32],
@@ -248,10 +251,10 @@ fn setp_write(
     doubles: &[u64],
     preds: &[u8],
 ) -> Write
-    ensures { λ r. ⌜ r ≡ setpWrite d s (now (words .entry)) (now (halves .entry)) (now (doubles .entry)) (now (preds .entry)) ⌝ }
+    ensures { λ r. ⌜ r ≡ setpWrite target d s (now (words .entry)) (now (halves .entry)) (now (doubles .entry)) (now (preds .entry)) ⌝ }
 {
     let combination = s.combination;
-    let t = test(s, words, halves, doubles);
+    let t = test(target, s, words, halves, doubles);
     let first = combined(combination, t, preds);
     let second = combined(combination, !t, preds);
     Write::Preds(d, first, second)
@@ -291,6 +294,7 @@ fn selp_write(
 }
 
 fn slct_write(
+    target: Target,
     ctype: SlctType,
     c: Word,
     s: Choice,
@@ -298,16 +302,24 @@ fn slct_write(
     halves: &[u16],
     doubles: &[u64],
 ) -> Write
-    ensures { λ r. ⌜ r ≡ slctWrite ctype c s (now (words .entry)) (now (halves .entry)) (now (doubles .entry)) ⌝ }
+    ensures { λ r. ⌜ r ≡ slctWrite target ctype c s (now (words .entry)) (now (halves .entry)) (now (doubles .entry)) ⌝ }
 {
-    let first = compare::not_below_zero(ctype, registers::word_at(words, c));
+    let t = targets::slct_type_at(target, ctype);
+    let first = compare::not_below_zero(t, registers::word_at(words, c));
     choice_write(first, s, words, halves, doubles)
 }
 
 // ---- one instruction: all sources are read before any destination is written
 
-fn write_of(r: Record, words: &[u32], halves: &[u16], doubles: &[u64], preds: &[u8]) -> Write
-    ensures { λ w. ⌜ w ≡ writeOf (r .instruction) (now (words .entry)) (now (halves .entry)) (now (doubles .entry)) (now (preds .entry)) ⌝ }
+fn write_of(
+    target: Target,
+    r: Record,
+    words: &[u32],
+    halves: &[u16],
+    doubles: &[u64],
+    preds: &[u8],
+) -> Write
+    ensures { λ w. ⌜ w ≡ writeOf target (r .instruction) (now (words .entry)) (now (halves .entry)) (now (doubles .entry)) (now (preds .entry)) ⌝ }
 {
     let i = r.instruction;
     match i {
@@ -329,8 +341,9 @@ fn write_of(r: Record, words: &[u32], halves: &[u16], doubles: &[u64], preds: &[
             dtype,
             d,
             comparison,
-        } => set_write(dtype, d, comparison, words, halves, doubles, preds),
+        } => set_write(target, dtype, d, comparison, words, halves, doubles, preds),
         Instruction::Setp { d, comparison } => setp_write(
+            target,
             d,
             comparison,
             words,
@@ -340,6 +353,7 @@ fn write_of(r: Record, words: &[u32], halves: &[u16], doubles: &[u64], preds: &[
         ),
         Instruction::Selp { choice, c } => selp_write(c, choice, words, halves, doubles, preds),
         Instruction::Slct { ctype, choice, c } => slct_write(
+            target,
             ctype,
             c,
             choice,
@@ -410,28 +424,30 @@ fn guard_holds(g: Guard, preds: &[u8]) -> bool
     }
 }
 
-// Executes the record on the lent files. A refusal or a false guard changes nothing.
+// Executes the record at a target on the lent files. A refusal or a false guard changes nothing.
 pub fn execute(
+    target: Target,
     r: Record,
     words: &mut [u32],
     halves: &mut [u16],
     doubles: &mut [u64],
     preds: &mut [u8],
 ) -> Executed
-    ensures { λ x. ⌜ outcome (answerOf x) (files (now (words .exit)) (now (halves .exit)) (now (doubles .exit)) (now (preds .exit))) ≡ run r (files (now (words .entry)) (now (halves .entry)) (now (doubles .entry)) (now (preds .entry))) ⌝ }
+    ensures { λ x. ⌜ outcome (answerOf x) (files (now (words .exit)) (now (halves .exit)) (now (doubles .exit)) (now (preds .exit))) ≡ run target r (files (now (words .entry)) (now (halves .entry)) (now (doubles .entry)) (now (preds .entry))) ⌝ }
 {
     let g = r.guard;
     let illegal = !legal::legal(r);
+    let too_old = !targets::allows(target, r);
     let wrong_sizes = !sizes_fit(words, halves, doubles, preds);
     let wrong_preds = !preds_fit(preds);
-    let n = refusals::executing(illegal, wrong_sizes, wrong_preds);
+    let n = refusals::executing(illegal, too_old, wrong_sizes, wrong_preds);
     if n != 0 {
         return Executed::Refused(n);
     }
     if !guard_holds(g, preds) {
         return Executed::Skipped;
     }
-    let w = write_of(r, words, halves, doubles, preds);
+    let w = write_of(target, r, words, halves, doubles, preds);
     put(w, words, halves, doubles, preds);
     Executed::Done
 }

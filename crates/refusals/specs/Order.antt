@@ -3,9 +3,9 @@
 use Prim.Native.Nat.{ℕ}
 use mathlib.Core.Bool.{Bool, cond}
 
--- Reading: 1 to 7
-abbrev pub firstReading : Bool → Bool → Bool → Bool → Bool → Bool → Bool → ℕ
-firstReading tooLong noShape noOpcode noRow noFit outOfFile samePair =
+-- Reading: 1 to 7, T-07: 12 after 7
+abbrev pub firstReading : Bool → Bool → Bool → Bool → Bool → Bool → Bool → Bool → ℕ
+firstReading tooLong noShape noOpcode noRow noFit outOfFile samePair tooOld =
     cond tooLong 1
     (cond noShape 2
     (cond noOpcode 3
@@ -13,8 +13,9 @@ firstReading tooLong noShape noOpcode noRow noFit outOfFile samePair =
     (cond noFit 5
     (cond outOfFile 6
     (cond samePair 7
-    0))))))
+    (cond tooOld 12
+    0)))))))
 
--- Executing: 8, 10, 11
-abbrev pub firstExecuting : Bool → Bool → Bool → ℕ
-firstExecuting illegal wrongSizes wrongPreds = cond illegal 8 (cond wrongSizes 10 (cond wrongPreds 11 0))
+-- Executing: 8, 10, 11, T-07: 12 straight after 8
+abbrev pub firstExecuting : Bool → Bool → Bool → Bool → ℕ
+firstExecuting illegal tooOld wrongSizes wrongPreds = cond illegal 8 (cond tooOld 12 (cond wrongSizes 10 (cond wrongPreds 11 0)))

@@ -20,6 +20,9 @@ const OUT_OF_FILE: u8 = 6;
 
 const SAME_PAIR: u8 = 7;
 
+// T-07: reading and executing.
+const TOO_OLD: u8 = 12;
+
 // The refusals of executing.
 const NOT_LEGAL: u8 = 8;
 
@@ -36,8 +39,9 @@ pub fn reading(
     no_fit: bool,
     out_of_file: bool,
     same_pair: bool,
+    too_old: bool,
 ) -> u8
-    ensures { λ r. ⌜ r ≡ firstReading «too_long» «no_shape» «no_opcode» «no_row» «no_fit» «out_of_file» «same_pair» ⌝ }
+    ensures { λ r. ⌜ r ≡ firstReading «too_long» «no_shape» «no_opcode» «no_row» «no_fit» «out_of_file» «same_pair» «too_old» ⌝ }
 {
     if too_long {
         return TOO_LONG;
@@ -60,15 +64,21 @@ pub fn reading(
     if same_pair {
         return SAME_PAIR;
     }
+    if too_old {
+        return TOO_OLD;
+    }
     NONE
 }
 
 // The first refusal of executing that applies, 0 where none does.
-pub fn executing(illegal: bool, wrong_sizes: bool, wrong_preds: bool) -> u8
-    ensures { λ r. ⌜ r ≡ firstExecuting illegal «wrong_sizes» «wrong_preds» ⌝ }
+pub fn executing(illegal: bool, too_old: bool, wrong_sizes: bool, wrong_preds: bool) -> u8
+    ensures { λ r. ⌜ r ≡ firstExecuting illegal «too_old» «wrong_sizes» «wrong_preds» ⌝ }
 {
     if illegal {
         return NOT_LEGAL;
+    }
+    if too_old {
+        return TOO_OLD;
     }
     if wrong_sizes {
         return WRONG_SIZES;

@@ -41,8 +41,8 @@ same-length-4 c = search needs
 
 returns : tie.Need-returns
 returns c =
-    ends-refused _ _ _
-    (simp (c .before .executing .ensures, c .before .before .preds-fit .ensures, c .before .before .before .before .sizes-fit .ensures, c .before .before .before .before .before .before .before .before .before .legal .ensures))
+    ends-refused _ _ _ _
+    (simp (c .before .executing .ensures, c .before .before .preds-fit .ensures, c .before .before .before .before .sizes-fit .ensures, c .before .before .before .before .before .before .before .before .before .allows .ensures, c .before .before .before .before .before .before .before .before .before .before .legal .ensures))
     (c .if1 .taken)
 
 guard-holds-requires : tie.Need-guard-holds-requires
@@ -62,8 +62,8 @@ same-length-8 c = search needs
 
 returns-2 : tie.Need-returns-2
 returns-2 c =
-    ends-skipped _ _ _
-    (simp (c .before .before .before .before .executing .ensures, c .before .before .before .before .before .preds-fit .ensures, c .before .before .before .before .before .before .before .sizes-fit .ensures, c .before .before .before .before .before .before .before .before .before .before .before .before .legal .ensures))
+    ends-skipped _ _ _ _
+    (simp (c .before .before .before .before .executing .ensures, c .before .before .before .before .before .preds-fit .ensures, c .before .before .before .before .before .before .before .sizes-fit .ensures, c .before .before .before .before .before .before .before .before .before .before .before .before .allows .ensures, c .before .before .before .before .before .before .before .before .before .before .before .before .before .legal .ensures))
     (c .before .before .before .if1 .left)
     (failed (c .before .guard-holds .ensures) (c .if2 .taken))
 
@@ -87,17 +87,21 @@ same-length-12 c = search needs
 
 returns-3 : tie.Need-returns-3
 returns-3 c =
-    ends-done _ _ _
-    (simp (c .before .before .before .before .before .before .before .before .before .before .before .before .before .before .before .before .before .before .before .before .before .before .executing .ensures, c .before .before .before .before .before .before .before .before .before .before .before .before .before .before .before .before .before .before .before .before .before .before .before .preds-fit .ensures, c .before .before .before .before .before .before .before .before .before .before .before .before .before .before .before .before .before .before .before .before .before .before .before .before .before .sizes-fit .ensures, c .before .before .before .before .before .before .before .before .before .before .before .before .before .before .before .before .before .before .before .before .before .before .before .before .before .before .before .before .before .before .legal .ensures))
+    ends-done _ _ _ _
+    (simp (c .before .before .before .before .before .before .before .before .before .before .before .before .before .before .before .before .before .before .before .before .before .before .executing .ensures, c .before .before .before .before .before .before .before .before .before .before .before .before .before .before .before .before .before .before .before .before .before .before .before .preds-fit .ensures, c .before .before .before .before .before .before .before .before .before .before .before .before .before .before .before .before .before .before .before .before .before .before .before .before .before .sizes-fit .ensures, c .before .before .before .before .before .before .before .before .before .before .before .before .before .before .before .before .before .before .before .before .before .before .before .before .before .before .before .before .before .before .allows .ensures, c .before .before .before .before .before .before .before .before .before .before .before .before .before .before .before .before .before .before .before .before .before .before .before .before .before .before .before .before .before .before .before .legal .ensures))
     (c .before .before .before .before .before .before .before .before .before .before .before .before .before .before .before .before .before .before .before .before .before .if1 .left)
     (passed (c .before .before .before .before .before .before .before .before .before .before .before .before .before .before .before .before .before .before .before .guard-holds .ensures) (c .before .before .before .before .before .before .before .before .before .before .before .before .before .before .before .before .before .before .if2 .left))
-    (rw (c .before .before .before .before .before .before .before .before .put .ensures, c .before .before .before .before .before .before .before .before .before .before .before .before .before .write-of .ensures) (instruction-written _ _))
+    (rw (c .before .before .before .before .before .before .before .before .put .ensures, c .before .before .before .before .before .before .before .before .before .before .before .before .before .write-of .ensures) (instruction-written _ _ _))
+
+allows-requires : tie.Need-allows-requires
+allows-requires c κs = search needs
 
 pub execute-spec : {M : Type 1} → statement M
 execute-spec =
     tie.close
     (tie.spec
     legal-requires
+    allows-requires
     sizes-fit-requires
     preds-fit-requires
     executing-requires
@@ -124,7 +128,7 @@ execute-spec =
 pub execute-one-outcome :
     (κs : Lfts 4) (a : Dens κs kinds.ps) (x y : Executed) (s t : AtExit (endedOf 4 kinds.ps kinds.r) κs)
     → reads.Post κs a x s → reads.Post κs a y t
-    → (x ≡ y) × (now (s .1 .0) ≡ now (t .1 .0)) × (now (s .1 .1 .0) ≡ now (t .1 .1 .0)) × (now (s .1 .1 .1 .0) ≡ now (t .1 .1 .1 .0)) × (now (s .1 .1 .1 .1 .0) ≡ now (t .1 .1 .1 .1 .0))
+    → (x ≡ y) × (now (s .1 .1 .0) ≡ now (t .1 .1 .0)) × (now (s .1 .1 .1 .0) ≡ now (t .1 .1 .1 .0)) × (now (s .1 .1 .1 .1 .0) ≡ now (t .1 .1 .1 .1 .0)) × (now (s .1 .1 .1 .1 .1 .0) ≡ now (t .1 .1 .1 .1 .1 .0))
 execute-one-outcome κs a x y s t p q =
     let z = one-outcome p q in
     (answers-one x y (ap (λ (o : Outcome). o .answer) z), ap (λ (o : Outcome). o .files .words) z, ap (λ (o : Outcome). o .files .halves) z, ap (λ (o : Outcome). o .files .doubles) z, ap (λ (o : Outcome). o .files .preds) z)

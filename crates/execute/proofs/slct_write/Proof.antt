@@ -16,9 +16,19 @@ returns c =
     simp (
       c .choice-write .ensures,
       c .before .not-below-zero .ensures,
+      c .before .before .before .slct-type-at .ensures,
       c .before .before .word-at .ensures,
     )
 
+slct-type-at-requires : tie.Need-slct-type-at-requires
+slct-type-at-requires c κs = search needs
+
 pub slct-write-spec : {M : Type 1} → statement M
 slct-write-spec =
-    tie.close (tie.spec word-at-requires not-below-zero-requires choice-write-requires returns)
+    tie.close
+    (tie.spec
+    slct-type-at-requires
+    word-at-requires
+    not-below-zero-requires
+    choice-write-requires
+    returns)

@@ -17,9 +17,20 @@ unfolding testIn
 returns c =
     simp (
       c .comparison .ensures,
-      c .before .operand2 .ensures,
-      c .before .before .operand .ensures,
+      c .before .flushes .ensures,
+      c .before .before .operand2 .ensures,
+      c .before .before .before .operand .ensures,
     )
 
+flushes-requires : tie.Need-flushes-requires
+flushes-requires c κs = search needs
+
 pub test-spec : {M : Type 1} → statement M
-test-spec = tie.close (tie.spec operand-requires operand-requires-2 comparison-requires returns)
+test-spec =
+    tie.close
+    (tie.spec
+    operand-requires
+    operand-requires-2
+    flushes-requires
+    comparison-requires
+    returns)

@@ -22,8 +22,11 @@ returns-3 c = search needs
 returns-4 : tie.Need-returns-4
 returns-4 c = search needs
 
+returns-5 : tie.Need-returns-5
+returns-5 c = search needs
+
 pub executing-spec : {M : Type 1} → statement M
-executing-spec = tie.close (tie.spec returns returns-2 returns-3 returns-4)
+executing-spec = tie.close (tie.spec returns returns-2 returns-3 returns-4 returns-5)
 
 -- no two outcomes satisfy the contract as it stands in src/lib.rt
 pub executing-one-outcome :

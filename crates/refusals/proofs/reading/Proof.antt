@@ -34,8 +34,11 @@ returns-7 c = search needs
 returns-8 : tie.Need-returns-8
 returns-8 c = search needs
 
+returns-9 : tie.Need-returns-9
+returns-9 c = search needs
+
 pub reading-spec : {M : Type 1} → statement M
-reading-spec = tie.close (tie.spec returns returns-2 returns-3 returns-4 returns-5 returns-6 returns-7 returns-8)
+reading-spec = tie.close (tie.spec returns returns-2 returns-3 returns-4 returns-5 returns-6 returns-7 returns-8 returns-9)
 
 -- no two outcomes satisfy the contract as it stands in src/lib.rt
 pub reading-one-outcome :
