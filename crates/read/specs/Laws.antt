@@ -14,6 +14,7 @@ use Rattle.record.specs.declared.Guard.{Guard}
 use Rattle.record.specs.declared.Guard.the-variants.{Always, When}
 use Rattle.record.specs.declared.Instruction.{Instruction}
 use Rattle.record.specs.declared.Record.{Record}
+use Rattle.record.specs.declared.Target.{Target}
 use Rattle.record.specs.declared.File.the-variants.{Words, Halves, Doubles, Preds}
 use Rattle.record.specs.Registers.{reg}
 use Rattle.rules.specs.Shape.{Name}
@@ -21,9 +22,10 @@ use Rattle.rules.specs.Names.{headNames}
 use Rattle.rules.specs.Grammar.GoodNames.{more as name-more}
 use Rattle.rules.specs.Grammar.GoodOperands.{more as operand-more}
 use Rattle.rules.specs.Grammar.{LineTree, GuardTree, unguarded, guarded, namesOf, operandsOf, Shaped}
+use Rattle.rules.specs.Targets.{allows, Allowed}
 use Rattle.rules.specs.Reading.{GuardSpells, Spells, Relates, lineLimit, opcodes, Row, Fits}
 use Rattle.signs.specs.Lists.{Listed}
-use Rattle.read.specs.Refuses.{Refuses, over-160, no-shape, no-opcode, no-row, no-fit, out-of-file, same-pair, Decides, decides-read, decides-refused}
+use Rattle.read.specs.Refuses.{Refuses, over-160, no-shape, no-opcode, no-row, no-fit, out-of-file, same-pair, old-target, Decides, decides-read, decides-refused}
 use Rattle.tree.specs.Seen.{seen, seenGuard, seenHead, seenOperands}
 use Rattle.tree.specs.Blank.{blank}
 use Rattle.tree.specs.declared.Guarding.{Guarding}
@@ -110,8 +112,8 @@ module _ (l : List ℕ) (short : length l ≤ lineLimit) (t : LineTree) (shaped 
       (shape-complete t (shaped .good) (rw (shaped .text) short))
 
   -- what the reader says of it, by its tree
-  abbrev said : Found → Filled → Verdict
-  said found filled = decidedBy false true (candidateBy (seenGuard (t .guard)) found filled)
+  abbrev said : Target → Found → Filled → Verdict
+  said target found filled = decidedBy target false true (candidateBy (seenGuard (t .guard)) found filled)
 
   abbrev found : Found
   found = rowOf (seenHead (namesOf t))
@@ -119,16 +121,16 @@ module _ (l : List ℕ) (short : length l ≤ lineLimit) (t : LineTree) (shaped 
   abbrev filledBy : Found → Filled
   filledBy f = filledOf (instructionIn f) (seenOperands (operandsOf t))
 
-  is-said : verdictOf l ≡ said found (filledBy found)
+  is-said : (target : Target) → verdictOf target l ≡ said target found (filledBy found)
   unfolding verdictOf candidateOf
-  is-said = rw (le-ltb lineLimit (length l) short, is-good .0, is-good .1)
+  is-said target = rw (le-ltb lineLimit (length l) short, is-good .0, is-good .1)
 
-  pub spelled-said : (m : Record) → Spells t m
-      → verdictOf l ≡ decidedBy false true (record { spelled = m; opcode = true; row = modifiersFit m; fit = operandsFit m })
-  spelled-said m s =
+  pub spelled-said : (target : Target) (m : Record) → Spells t m
+      → verdictOf target l ≡ decidedBy target false true (record { spelled = m; opcode = true; row = modifiersFit m; fit = operandsFit m })
+  spelled-said target m s =
       let f = spelled-found t m s in
       let g = guard-found (t .guard) (m .guard) (s .guard) in
-      is-said ∙ rw (f .0, f .1, g .0, g .1, fit-blank (m .instruction))
+      is-said target ∙ rw (f .0, f .1, g .0, g .1, fit-blank (m .instruction))
 
   -- what is found and passes all stages is spelled
   found-spells : (i j : Instruction) → found ≡ Found.Row i → filledBy (Found.Row i) ≡ Filled.Full j → guardGood (seenGuard (t .guard)) ≡ true
@@ -142,23 +144,28 @@ module _ (l : List ℕ) (short : length l ≤ lineLimit) (t : LineTree) (shaped 
   -- ---- each stage gives the answer that the grammar gives
 
   -- the line spells m, which fits
-  fits-answers : (m : Record) → Fits t m → Decides l (decidedBy false true (record { spelled = m; opcode = true; row = true; fit = true }))
-  fits-answers m f = go (numbersInRange m) refl (pairApart m) refl
+  fits-answers : (target : Target) (m : Record) → Fits t m → Decides target l (decidedBy target false true (record { spelled = m; opcode = true; row = true; fit = true }))
+  fits-answers target m f = go (numbersInRange m) refl (pairApart m) refl (allows target m) refl
     where
-      go : (x : Bool) → numbersInRange m ≡ x → (y : Bool) → pairApart m ≡ y → Decides l (decided (firstReading false false false false false (not x) (not y)) m)
-      go false e y q = decides-refused (out-of-file short t shaped m f e)
-      go true e false q = decides-refused (same-pair short t shaped m f e q)
-      go true e true q = decides-read m (record { short = short; tree = t; shaped = shaped; spells = f .spells }) (all-legal m (f .modifiers) (f .operands) e q)
+      related : Relates l m
+      related = record { short = short; tree = t; shaped = shaped; spells = f .spells }
+
+      go : (x : Bool) → numbersInRange m ≡ x → (y : Bool) → pairApart m ≡ y → (z : Bool) → allows target m ≡ z
+          → Decides target l (decided (firstReading false false false false false (not x) (not y) (not z)) m)
+      go false e y q z a = decides-refused (out-of-file short t shaped m f e)
+      go true e false q z a = decides-refused (same-pair short t shaped m f e q)
+      go true e true q false a = decides-refused (old-target m related (all-legal m (f .modifiers) (f .operands) e q) a)
+      go true e true q true a = decides-read m related (record { legal = all-legal m (f .modifiers) (f .operands) e q; allowed = a })
 
   -- the row fits; the operands are j's, or wrong
-  operands-answer : (i : Instruction) → found ≡ Found.Row i → instructionModifiersFit i ≡ true → (x : Filled) → filledBy (Found.Row i) ≡ x
-      → Decides l (decidedBy false true (record {
+  operands-answer : (target : Target) (i : Instruction) → found ≡ Found.Row i → instructionModifiersFit i ≡ true → (x : Filled) → filledBy (Found.Row i) ≡ x
+      → Decides target l (decidedBy target false true (record {
         spelled = recordOf (guardIn (seenGuard (t .guard))) (filledIn x);
         opcode = true;
         row = true;
         fit = guardGood (seenGuard (t .guard)) && fullIs x && operandsFit (recordOf (guardIn (seenGuard (t .guard))) (filledIn x));
       }))
-  operands-answer i e f x q = go x q (guardGood (seenGuard (t .guard))) refl
+  operands-answer target i e f x q = go x q (guardGood (seenGuard (t .guard))) refl
     where
       row : Row (namesOf t) i
       row = record { names = row-sound (namesOf t) i (name-more (shaped .good .opcode) (shaped .good .modifiers)) e .0; fit = f }
@@ -178,7 +185,7 @@ module _ (l : List ℕ) (short : length l ≤ lineLimit) (t : LineTree) (shaped 
       none-guarded w m h = off (guard-found (t .guard) (m .guard) (h .spells .guard) .0) w
 
       go : (x : Filled) → filledBy (Found.Row i) ≡ x → (b : Bool) → guardGood g ≡ b
-          → Decides l (decidedBy false true (record { spelled = recordOf (guardIn g) (filledIn x); opcode = true; row = true; fit = b && fullIs x && operandsFit (recordOf (guardIn g) (filledIn x)) }))
+          → Decides target l (decidedBy target false true (record { spelled = recordOf (guardIn g) (filledIn x); opcode = true; row = true; fit = b && fullIs x && operandsFit (recordOf (guardIn g) (filledIn x)) }))
       go x q false b = decides-refused (no-fit short t shaped i row (none-guarded b))
       go (Filled.Wrong k) q true b = decides-refused (no-fit short t shaped i row (none-full k q))
       go (Filled.Full j) q true b = fit (operandsFit (recordOf (guardIn g) j)) refl
@@ -187,17 +194,17 @@ module _ (l : List ℕ) (short : length l ≤ lineLimit) (t : LineTree) (shaped 
           s = found-spells i j e q b
 
           fit : (c : Bool) → operandsFit (recordOf (guardIn g) j) ≡ c
-              → Decides l (decidedBy false true (record { spelled = recordOf (guardIn g) j; opcode = true; row = true; fit = c }))
-          fit true c = fits-answers (recordOf (guardIn g) j) (record { spells = s .0; modifiers = sym (fit-blank j) ∙ ap instructionModifiersFit (s .1) ∙ f; operands = c })
+              → Decides target l (decidedBy target false true (record { spelled = recordOf (guardIn g) j; opcode = true; row = true; fit = c }))
+          fit true c = fits-answers target (recordOf (guardIn g) j) (record { spells = s .0; modifiers = sym (fit-blank j) ∙ ap instructionModifiersFit (s .1) ∙ f; operands = c })
           fit false c =
               decides-refused
               (no-fit short t shaped i row λ m h. off (h .operands) (ap operandsFit (seen-one t t refl m (recordOf (guardIn g) j) (h .spells) (s .0)) ∙ c))
 
-  found-answers : (f : Found) → found ≡ f → Decides l (said f (filledBy f))
-  found-answers Found.NoOpcode e = decides-refused (no-opcode short t shaped (no-opcode-known (t .opcode) (t .modifiers) (shaped .good .opcode) e))
-  found-answers (Found.Wrong k) e =
+  found-answers : (target : Target) (f : Found) → found ≡ f → Decides target l (said target f (filledBy f))
+  found-answers target Found.NoOpcode e = decides-refused (no-opcode short t shaped (no-opcode-known (t .opcode) (t .modifiers) (shaped .good .opcode) e))
+  found-answers target (Found.Wrong k) e =
       decides-refused (no-row short t shaped (wrong-known (t .opcode) (t .modifiers) k (shaped .good .opcode) e) λ i r. wrong-no-row (namesOf t) k e i (r .names))
-  found-answers (Found.Row i) e = fit (instructionModifiersFit i) refl
+  found-answers target (Found.Row i) e = fit (instructionModifiersFit i) refl
     where
       r : (namesOf t ≡ headNames i) × (blank i ≡ i)
       r = row-sound (namesOf t) i (name-more (shaped .good .opcode) (shaped .good .modifiers)) e
@@ -208,67 +215,68 @@ module _ (l : List ℕ) (short : length l ≤ lineLimit) (t : LineTree) (shaped 
           let z = same-row j i (sym (q .names) ∙ r .0) in
           off (q .fit) (sym (fit-blank j) ∙ ap instructionModifiersFit z ∙ fit-blank i ∙ w)
 
-      fit : (b : Bool) → instructionModifiersFit i ≡ b → Decides l (decidedBy false true (record {
+      fit : (b : Bool) → instructionModifiersFit i ≡ b → Decides target l (decidedBy target false true (record {
         spelled = recordOf (guardIn (seenGuard (t .guard))) (filledIn (filledBy (Found.Row i)));
         opcode = true;
         row = b;
         fit = guardGood (seenGuard (t .guard)) && fullIs (filledBy (Found.Row i)) && operandsFit (recordOf (guardIn (seenGuard (t .guard))) (filledIn (filledBy (Found.Row i))));
       }))
-      fit true w = operands-answer i e w (filledBy (Found.Row i)) refl
+      fit true w = operands-answer target i e w (filledBy (Found.Row i)) refl
       fit false w = decides-refused (no-row short t shaped (row-listed i (t .opcode) (t .modifiers) (r .0)) (unfit w))
 
-  pub shaped-answers : Decides l (verdictOf l)
-  shaped-answers = subst (Decides l) (sym is-said) (found-answers found refl)
+  pub shaped-answers : (target : Target) → Decides target l (verdictOf target l)
+  shaped-answers target = subst (Decides target l) (sym (is-said target)) (found-answers target found refl)
 
 -- ==== every line
 
 -- every line gets the answer that the grammar gives it
-pub decides : (l : List ℕ) → Decides l (verdictOf l)
+pub decides : (target : Target) (l : List ℕ) → Decides target l (verdictOf target l)
 unfolding verdictOf
-decides l = go (ltb lineLimit (length l)) refl
+decides target l = go (ltb lineLimit (length l)) refl
   where
-    shapes : length l ≤ lineLimit → (b : Bool) → shapeOf l .good ≡ b → Decides l (decidedBy false b (candidateOf (shapeOf l .parts)))
+    shapes : length l ≤ lineLimit → (b : Bool) → shapeOf l .good ≡ b → Decides target l (decidedBy target false b (candidateOf (shapeOf l .parts)))
     shapes h true e =
         let s = shape-sound l h e in
-        subst (Decides l) (rw (le-ltb lineLimit (length l) h, e)) (shaped-answers l h (s .tree) (s .shaped))
+        subst (Decides target l) (rw (le-ltb lineLimit (length l) h, e)) (shaped-answers l h (s .tree) (s .shaped) target)
     shapes h false e = decides-refused (no-shape h λ t s. off (is-good l h t s .0) e)
 
-    go : (b : Bool) → ltb lineLimit (length l) ≡ b → Decides l (decidedBy b (shapeOf l .good) (candidateOf (shapeOf l .parts)))
+    go : (b : Bool) → ltb lineLimit (length l) ≡ b → Decides target l (decidedBy target b (shapeOf l .good) (candidateOf (shapeOf l .parts)))
     go true e = decides-refused (over-160 (ltb-true lineLimit (length l) e))
     go false e = shapes (ltb-false lineLimit (length l) e) (shapeOf l .good) refl
 
 -- ==== and no other
 
 module _ (l : List ℕ) (short : length l ≤ lineLimit) (t : LineTree) (shaped : Shaped l t) where
-  found-only : (a : Verdict) → ((f : Found) → found l short t shaped ≡ f → said l short t shaped f (filledBy l short t shaped f) ≡ a) → verdictOf l ≡ a
-  found-only a k = is-said l short t shaped ∙ k (found l short t shaped) refl
+  found-only : (target : Target) (a : Verdict) → ((f : Found) → found l short t shaped ≡ f → said l short t shaped target f (filledBy l short t shaped f) ≡ a)
+      → verdictOf target l ≡ a
+  found-only target a k = is-said l short t shaped target ∙ k (found l short t shaped) refl
 
   row-of : (i : Instruction) → found l short t shaped ≡ Found.Row i → namesOf t ≡ headNames i
   row-of i e = row-sound (namesOf t) i (name-more (shaped .good .opcode) (shaped .good .modifiers)) e .0
 
-  no-opcode-only : (Listed (t .opcode) opcodes → ⊥) → verdictOf l ≡ Verdict.Numbered 3
-  no-opcode-only k = found-only (Verdict.Numbered 3) go
+  no-opcode-only : (target : Target) → (Listed (t .opcode) opcodes → ⊥) → verdictOf target l ≡ Verdict.Numbered 3
+  no-opcode-only target k = found-only target (Verdict.Numbered 3) go
     where
-      go : (f : Found) → found l short t shaped ≡ f → said l short t shaped f (filledBy l short t shaped f) ≡ Verdict.Numbered 3
+      go : (f : Found) → found l short t shaped ≡ f → said l short t shaped target f (filledBy l short t shaped f) ≡ Verdict.Numbered 3
       go Found.NoOpcode e = refl
       go (Found.Wrong j) e = absurd (k (wrong-known (t .opcode) (t .modifiers) j (shaped .good .opcode) e))
       go (Found.Row i) e = absurd (k (row-listed i (t .opcode) (t .modifiers) (row-of i e)))
 
-  no-row-only : Listed (t .opcode) opcodes → ((i : Instruction) → Row (namesOf t) i → ⊥) → verdictOf l ≡ Verdict.Numbered 4
-  no-row-only o k = found-only (Verdict.Numbered 4) go
+  no-row-only : (target : Target) → Listed (t .opcode) opcodes → ((i : Instruction) → Row (namesOf t) i → ⊥) → verdictOf target l ≡ Verdict.Numbered 4
+  no-row-only target o k = found-only target (Verdict.Numbered 4) go
     where
       unfit : (i : Instruction) → namesOf t ≡ headNames i → (b : Bool) → instructionModifiersFit i ≡ b → instructionModifiersFit i ≡ false
       unfit i n true e = absurd (k i (record { names = n; fit = e }))
       unfit i n false e = e
 
-      go : (f : Found) → found l short t shaped ≡ f → said l short t shaped f (filledBy l short t shaped f) ≡ Verdict.Numbered 4
+      go : (f : Found) → found l short t shaped ≡ f → said l short t shaped target f (filledBy l short t shaped f) ≡ Verdict.Numbered 4
       go Found.NoOpcode e = absurd (no-opcode-known (t .opcode) (t .modifiers) (shaped .good .opcode) e o)
       go (Found.Wrong j) e = refl
       go (Found.Row i) e = rw (unfit i (row-of i e) (instructionModifiersFit i) refl)
 
-  no-fit-only : (i : Instruction) → Row (namesOf t) i → ((m : Record) → Fits t m → ⊥) → verdictOf l ≡ Verdict.Numbered 5
-  no-fit-only i r k =
-      is-said l short t shaped ∙ rw e (rw (fits) (go (filledBy l short t shaped (Found.Row (blank i))) refl (guardGood g) refl))
+  no-fit-only : (target : Target) (i : Instruction) → Row (namesOf t) i → ((m : Record) → Fits t m → ⊥) → verdictOf target l ≡ Verdict.Numbered 5
+  no-fit-only target i r k =
+      is-said l short t shaped target ∙ rw e (rw (fits) (go (filledBy l short t shaped (Found.Row (blank i))) refl (guardGood g) refl))
     where
       g : Guarding
       g = seenGuard (t .guard)
@@ -280,7 +288,7 @@ module _ (l : List ℕ) (short : length l ≤ lineLimit) (t : LineTree) (shaped 
       fits = fit-blank i ∙ r .fit
 
       go : (x : Filled) → filledBy l short t shaped (Found.Row (blank i)) ≡ x → (b : Bool) → guardGood g ≡ b
-          → decidedBy false true (record { spelled = recordOf (guardIn g) (filledIn x); opcode = true; row = true; fit = b && fullIs x && operandsFit (recordOf (guardIn g) (filledIn x)) }) ≡ Verdict.Numbered 5
+          → decidedBy target false true (record { spelled = recordOf (guardIn g) (filledIn x); opcode = true; row = true; fit = b && fullIs x && operandsFit (recordOf (guardIn g) (filledIn x)) }) ≡ Verdict.Numbered 5
       go x q false b = refl
       go (Filled.Wrong j) q true b = refl
       go (Filled.Full j) q true b = fit (operandsFit (recordOf (guardIn g) j)) refl
@@ -289,49 +297,54 @@ module _ (l : List ℕ) (short : length l ≤ lineLimit) (t : LineTree) (shaped 
           s = found-spells l short t shaped (blank i) j e q b
 
           fit : (c : Bool) → operandsFit (recordOf (guardIn g) j) ≡ c
-              → decidedBy false true (record { spelled = recordOf (guardIn g) j; opcode = true; row = true; fit = c }) ≡ Verdict.Numbered 5
+              → decidedBy target false true (record { spelled = recordOf (guardIn g) j; opcode = true; row = true; fit = c }) ≡ Verdict.Numbered 5
           fit false c = refl
           fit true c =
               absurd
               (k (recordOf (guardIn g) j)
               (record { spells = s .0; modifiers = sym (fit-blank j) ∙ ap instructionModifiersFit (s .1) ∙ fits; operands = c }))
 
-  fits-only : (m : Record) → Fits t m → verdictOf l ≡ decidedBy false true (record { spelled = m; opcode = true; row = true; fit = true })
-  fits-only m f = spelled-said l short t shaped m (f .spells) ∙ rw (f .modifiers, f .operands)
+  fits-only : (target : Target) (m : Record) → Fits t m → verdictOf target l ≡ decidedBy target false true (record { spelled = m; opcode = true; row = true; fit = true })
+  fits-only target m f = spelled-said l short t shaped target m (f .spells) ∙ rw (f .modifiers, f .operands)
 
-no-shape-only : (l : List ℕ) → length l ≤ lineLimit → ((t : LineTree) → Shaped l t → ⊥) → verdictOf l ≡ Verdict.Numbered 2
+no-shape-only : (target : Target) (l : List ℕ) → length l ≤ lineLimit → ((t : LineTree) → Shaped l t → ⊥) → verdictOf target l ≡ Verdict.Numbered 2
 unfolding verdictOf
-no-shape-only l h k = rw (le-ltb lineLimit (length l) h) (go (shapeOf l .good) refl)
+no-shape-only target l h k = rw (le-ltb lineLimit (length l) h) (go (shapeOf l .good) refl)
   where
-    go : (b : Bool) → shapeOf l .good ≡ b → decidedBy false b (candidateOf (shapeOf l .parts)) ≡ Verdict.Numbered 2
+    go : (b : Bool) → shapeOf l .good ≡ b → decidedBy target false b (candidateOf (shapeOf l .parts)) ≡ Verdict.Numbered 2
     go true e = let s = shape-sound l h e in absurd (k (s .tree) (s .shaped))
     go false e = refl
 
-over-only : (l : List ℕ) → lineLimit < length l → verdictOf l ≡ Verdict.Numbered 1
+over-only : (target : Target) (l : List ℕ) → lineLimit < length l → verdictOf target l ≡ Verdict.Numbered 1
 unfolding verdictOf
-over-only l h = rw (lt-ltb lineLimit (length l) h)
+over-only target l h = rw (lt-ltb lineLimit (length l) h)
 
-refusal-only : (l : List ℕ) (n : ℕ) → Refuses l n → verdictOf l ≡ Verdict.Numbered n
-refusal-only l n (over-160 h) = over-only l h
-refusal-only l n (no-shape h k) = no-shape-only l h k
-refusal-only l n (no-opcode h t s k) = no-opcode-only l h t s k
-refusal-only l n (no-row h t s o k) = no-row-only l h t s o k
-refusal-only l n (no-fit h t s i r k) = no-fit-only l h t s i r k
-refusal-only l n (out-of-file h t s m f e) = fits-only l h t s m f ∙ rw e
-refusal-only l n (same-pair h t s m f e q) = fits-only l h t s m f ∙ rw (e, q)
-
-related-only : (l : List ℕ) (m : Record) → Relates l m → Legal m → verdictOf l ≡ Verdict.Accepted m
-related-only l m r h =
+-- a line that spells a legal record
+legal-only : (target : Target) (l : List ℕ) (m : Record) → Relates l m → Legal m → verdictOf target l ≡ decidedBy target false true (record { spelled = m; opcode = true; row = true; fit = true })
+legal-only target l m r h =
     let k = legal-parts m h in
-    fits-only l (r .short) (r .tree) (r .shaped) m (record { spells = r .spells; modifiers = k .0; operands = k .1 }) ∙ rw (k .2, k .3)
+    fits-only l (r .short) (r .tree) (r .shaped) target m (record { spells = r .spells; modifiers = k .0; operands = k .1 })
 
-pub only : (l : List ℕ) (a : Verdict) → Decides l a → verdictOf l ≡ a
-only l a (decides-read m r h) = related-only l m r h
-only l a (decides-refused {n} r) = refusal-only l n r
+refusal-only : (target : Target) (l : List ℕ) (n : ℕ) → Refuses target l n → verdictOf target l ≡ Verdict.Numbered n
+refusal-only target l n (over-160 h) = over-only target l h
+refusal-only target l n (no-shape h k) = no-shape-only target l h k
+refusal-only target l n (no-opcode h t s k) = no-opcode-only l h t s target k
+refusal-only target l n (no-row h t s o k) = no-row-only l h t s target o k
+refusal-only target l n (no-fit h t s i r k) = no-fit-only l h t s target i r k
+refusal-only target l n (out-of-file h t s m f e) = fits-only l h t s target m f ∙ rw e
+refusal-only target l n (same-pair h t s m f e q) = fits-only l h t s target m f ∙ rw (e, q)
+refusal-only target l n (old-target m r h a) = let k = legal-parts m h in legal-only target l m r h ∙ rw (k .2, k .3, a)
+
+related-only : (target : Target) (l : List ℕ) (m : Record) → Relates l m → Allowed target m → verdictOf target l ≡ Verdict.Accepted m
+related-only target l m r h = let k = legal-parts m (h .legal) in legal-only target l m r (h .legal) ∙ rw (k .2, k .3, h .allowed)
+
+pub only : (target : Target) (l : List ℕ) (a : Verdict) → Decides target l a → verdictOf target l ≡ a
+only target l a (decides-read m r h) = related-only target l m r h
+only target l a (decides-refused {n} r) = refusal-only target l n r
 
 -- no line gets two decides
-pub decides-unique : (l : List ℕ) (a b : Verdict) → Decides l a → Decides l b → a ≡ b
-decides-unique l a b x y = sym (only l a x) ∙ only l b y
+pub decides-unique : (target : Target) (l : List ℕ) (a b : Verdict) → Decides target l a → Decides target l b → a ≡ b
+decides-unique target l a b x y = sym (only target l a x) ∙ only target l b y
 
 -- no line is related to two records
 pub one-record : (l : List ℕ) (m n : Record) → Relates l m → Relates l n → m ≡ n
@@ -362,18 +375,18 @@ row-by-all l h t u s v i r =
 -- ==== as the code decides, stage by stage
 
 -- the guard is looked at last
-pub ends-full : (good : Bool) (m : Record) → decidedBy false true (fitBy good m) ≡ decidedBy false true (record { spelled = m; opcode = true; row = true; fit = good && true && operandsFit m })
-ends-full true m = refl
-ends-full false m = refl
+pub ends-full : (target : Target) (good : Bool) (m : Record) → decidedBy target false true (fitBy good m) ≡ decidedBy target false true (record { spelled = m; opcode = true; row = true; fit = good && true && operandsFit m })
+ends-full target true m = refl
+ends-full target false m = refl
 
-pub ends-wrong : (good : Bool) (m : Record) → Verdict.Numbered 5 ≡ decidedBy false true (record { spelled = m; opcode = true; row = true; fit = good && false && operandsFit m })
-ends-wrong true m = refl
-ends-wrong false m = refl
+pub ends-wrong : (target : Target) (good : Bool) (m : Record) → Verdict.Numbered 5 ≡ decidedBy target false true (record { spelled = m; opcode = true; row = true; fit = good && false && operandsFit m })
+ends-wrong target true m = refl
+ends-wrong target false m = refl
 
 -- a number, 0 for none
-pub ends-refused : (good : Bool) (m : Record) (n : ℕ) → n ≡ refusalOf false true (fitBy good m) → (n ≡ 0 → ⊥) → Verdict.Numbered n ≡ decidedBy false true (fitBy good m)
-ends-refused good m zero e h = absurd (h refl)
-ends-refused good m (suc n) e h = rw (← e)
+pub ends-refused : (target : Target) (good : Bool) (m : Record) (n : ℕ) → n ≡ refusalOf target false true (fitBy good m) → (n ≡ 0 → ⊥) → Verdict.Numbered n ≡ decidedBy target false true (fitBy good m)
+ends-refused target good m zero e h = absurd (h refl)
+ends-refused target good m (suc n) e h = rw (← e)
 
-pub ends-read : (good : Bool) (m : Record) (n : ℕ) → n ≡ refusalOf false true (fitBy good m) → n ≡ 0 → Verdict.Accepted m ≡ decidedBy false true (fitBy good m)
-ends-read good m n e z = rw (← e, z)
+pub ends-read : (target : Target) (good : Bool) (m : Record) (n : ℕ) → n ≡ refusalOf target false true (fitBy good m) → n ≡ 0 → Verdict.Accepted m ≡ decidedBy target false true (fitBy good m)
+ends-read target good m n e z = rw (← e, z)

@@ -1,6 +1,6 @@
 -- What the reader computes, stage by stage, on lists. No one has to believe it: specs/Laws.antt joins it to the grammar.
 use Prim.Native.Nat.{ℕ, zero, suc}
-use mathlib.Core.Bool.{Bool, true, false, not, _&&_, cond}
+use mathlib.Core.Bool.{Bool, true, false, not, _&&_, _||_, cond}
 use mathlib.Core.List.{List}
 use lib.ListN.{length}
 use lib.Dec.{eqb, ltb}
@@ -14,6 +14,8 @@ use Rattle.record.specs.declared.Guard.the-variants.{Always, When}
 use Rattle.record.specs.declared.Instruction.{Instruction}
 use Rattle.record.specs.declared.Instruction.the-variants.{Selp}
 use Rattle.record.specs.declared.Record.{Record}
+use Rattle.record.specs.declared.Target.{Target}
+use Rattle.rules.specs.Targets.{allows}
 use Rattle.rules.specs.Reading.{lineLimit, Answer, read, refused, refused-at}
 use Rattle.tree.specs.Blank.{noPred, blankChoice}
 use Rattle.tree.specs.declared.Place
@@ -106,31 +108,35 @@ candidateOf x = candidateBy (x .guard) (rowOf (x .head)) (filledOf (instructionI
 abbrev pub fitBy : Bool → Record → Candidate
 fitBy good m = record { spelled = m; opcode = true; row = true; fit = good && operandsFit m }
 
-abbrev pub refusalOf : Bool → Bool → Candidate → ℕ
-refusalOf tooLong good c =
-    firstReading tooLong (not good) (not (c .opcode)) (not (c .row)) (not (c .fit)) (not (numbersInRange (c .spelled))) (not (pairApart (c .spelled)))
+abbrev pub refusalOf : Target → Bool → Bool → Candidate → ℕ
+refusalOf target tooLong good c =
+    firstReading tooLong (not good) (not (c .opcode)) (not (c .row)) (not (c .fit)) (not (numbersInRange (c .spelled))) (not (pairApart (c .spelled))) (not (allows target (c .spelled)))
+
+-- a line that stops before there is a record
+abbrev pub stoppedBy : Bool → Bool → Bool → Bool → Verdict
+stoppedBy tooLong noShape noOpcode noRow = Verdict.Numbered (firstReading tooLong noShape noOpcode noRow true true true true)
 
 abbrev pub decided : ℕ → Record → Verdict
 decided zero m = Verdict.Accepted m
 decided (suc n) m = Verdict.Numbered (suc n)
 
-abbrev pub decidedBy : Bool → Bool → Candidate → Verdict
-decidedBy tooLong good c = decided (refusalOf tooLong good c) (c .spelled)
+abbrev pub decidedBy : Target → Bool → Bool → Candidate → Verdict
+decidedBy target tooLong good c = decided (refusalOf target tooLong good c) (c .spelled)
 
-unfoldable pub verdictOf : List ℕ → Verdict
-verdictOf l = decidedBy (ltb lineLimit (length l)) (shapeOf l .good) (candidateOf (shapeOf l .parts))
+unfoldable pub verdictOf : Target → List ℕ → Verdict
+verdictOf target l = decidedBy target (ltb lineLimit (length l)) (shapeOf l .good) (candidateOf (shapeOf l .parts))
 
--- ==== the answer: the first refusal carries no place
+-- ==== the answer: 1 and 12 carry no place
 
-abbrev pub noPlace : ℕ
-noPlace = 1
+abbrev pub noPlace : ℕ → Bool
+noPlace n = eqb n 1 || eqb n 12
 
 unfoldable pub refusedBy : ℕ → List ℕ → Answer
-refusedBy n l = cond (eqb n noPlace) (refused n) (refused-at n (placeOf n l))
+refusedBy n l = cond (noPlace n) (refused n) (refused-at n (placeOf n l))
 
 abbrev pub answerBy : Verdict → List ℕ → Answer
 answerBy (Verdict.Accepted m) l = read m
 answerBy (Verdict.Numbered n) l = refusedBy n l
 
-unfoldable pub readOf : List ℕ → Answer
-readOf l = answerBy (verdictOf l) l
+unfoldable pub readOf : Target → List ℕ → Answer
+readOf target l = answerBy (verdictOf target l) l

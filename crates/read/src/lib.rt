@@ -1,5 +1,5 @@
-// Reads one line: its shape, its row of the modifier table, its operands, then numbers and pairs. The first refusal that applies decides; then
-// its place is looked for.
+// Reads one line at a target: its shape, its row of the modifier table, its operands, then numbers and pairs, then whether the target allows it.
+// The first refusal that applies decides; then its place is looked for.
 use fills::Filled;
 use heads::Found;
 use record::Condition;
@@ -7,6 +7,7 @@ use record::Guard;
 use record::Instruction;
 use record::Pred;
 use record::Record;
+use record::Target;
 use tree::Guarding;
 use tree::Operands;
 use tree::Parts;
@@ -18,7 +19,7 @@ ghost use Rattle.rules.specs.Reading.{Answers};
 ghost use Rattle.fills.specs.Fills.{filledOf};
 ghost use Rattle.heads.specs.declared.Found.the-variants as found;
 ghost use Rattle.read.specs.Paper.{answerOf};
-ghost use Rattle.read.specs.Mirror.{predIn, guardAt, guardIn, recordOf, candidateBy, candidateOf, fitBy, refusalOf, decidedBy, verdictOf, refusedBy};
+ghost use Rattle.read.specs.Mirror.{predIn, guardAt, guardIn, recordOf, candidateBy, candidateOf, fitBy, refusalOf, stoppedBy, decidedBy, verdictOf, refusedBy};
 ghost use Rattle.places.specs.Mirror.{guardGood};
 
 // The record, or document 01's number of the refusal and, if it carries one, its place: the bytes of the line before it.
@@ -79,21 +80,38 @@ fn record_of(guard: Guard, instruction: Instruction) -> Record
     }
 }
 
-// Refusals 5, 6 and 7, 0 for none.
-fn last_refusal(good: bool, r: Record) -> u8
-    ensures { λ n. ⌜ n ≡ refusalOf false true (fitBy good r) ⌝ }
+// Refusals 5, 6, 7 and 12, 0 for none.
+fn last_refusal(target: Target, good: bool, r: Record) -> u8
+    ensures { λ n. ⌜ n ≡ refusalOf target false true (fitBy good r) ⌝ }
 {
     let fit = good & fits::operands_fit(r);
     let inside = legal::numbers_in_range(r);
     let apart = legal::pair_apart(r);
-    refusals::reading(false, false, false, false, !fit, !inside, !apart)
+    let allowed = targets::allows(target, r);
+    refusals::reading(false, false, false, false, !fit, !inside, !apart, !allowed)
 }
 
-fn from_filled(g: Guarding, i: Instruction) -> Verdict
-    ensures { λ a. ⌜ a ≡ decidedBy false true (fitBy (guardGood g) (recordOf (guardIn g) i)) ⌝ }
+// A line that stops before there is a record: what the tests of a record would say no longer counts.
+fn stopped(too_long: bool, no_shape: bool, no_opcode: bool, no_row: bool) -> Verdict
+    ensures { λ a. ⌜ a ≡ stoppedBy «too_long» «no_shape» «no_opcode» «no_row» ⌝ }
+{
+    Verdict::Numbered(refusals::reading(
+        too_long,
+        no_shape,
+        no_opcode,
+        no_row,
+        true,
+        true,
+        true,
+        true,
+    ))
+}
+
+fn from_filled(target: Target, g: Guarding, i: Instruction) -> Verdict
+    ensures { λ a. ⌜ a ≡ decidedBy target false true (fitBy (guardGood g) (recordOf (guardIn g) i)) ⌝ }
 {
     let r = record_of(guard_in(g), i);
-    let n = last_refusal(places::guard_good(g), r);
+    let n = last_refusal(target, places::guard_good(g), r);
     if n != 0 {
         return Verdict::Numbered(n);
     }
@@ -107,78 +125,72 @@ fn row_fits(i: Instruction) -> bool
     fits::modifiers_fit(record_of(Guard::Always, i))
 }
 
-fn from_row(g: Guarding, i: Instruction, operands: Operands) -> Verdict
-    ensures { λ a. ⌜ a ≡ decidedBy false true (candidateBy g (found.Row i) (filledOf i operands)) ⌝ }
+fn from_row(target: Target, g: Guarding, i: Instruction, operands: Operands) -> Verdict
+    ensures { λ a. ⌜ a ≡ decidedBy target false true (candidateBy g (found.Row i) (filledOf i operands)) ⌝ }
 {
     if !row_fits(i) {
-        return Verdict::Numbered(refusals::reading(false, false, false, true, true, true, true));
+        return stopped(false, false, false, true);
     }
     let Filled::Full(j) = fills::fill_in(i, operands) else {
-        return Verdict::Numbered(refusals::reading(false, false, false, false, true, true, true));
+        return stopped(false, false, false, false);
     };
-    from_filled(g, j)
+    from_filled(target, g, j)
 }
 
-fn from_parts(x: Parts) -> Verdict
-    ensures { λ a. ⌜ a ≡ decidedBy false true (candidateOf x) ⌝ }
+fn from_parts(target: Target, x: Parts) -> Verdict
+    ensures { λ a. ⌜ a ≡ decidedBy target false true (candidateOf x) ⌝ }
 {
     let g = x.guard;
     let head = x.head;
     let operands = x.operands;
     match heads::row(head) {
         Found::Row(i) => {
-            return from_row(g, i, operands);
+            return from_row(target, g, i, operands);
         }
         Found::NoOpcode => {
-            return Verdict::Numbered(refusals::reading(false, false, true, true, true, true, true));
+            return stopped(false, false, true, true);
         }
         Found::Wrong(_) => {
-            return Verdict::Numbered(refusals::reading(
-                false,
-                false,
-                false,
-                true,
-                true,
-                true,
-                true,
-            ));
+            return stopped(false, false, false, true);
         }
     }
 }
 
-fn judge(line: &[u8]) -> Verdict
-    ensures { λ a. ⌜ a ≡ verdictOf (now (line .entry)) ⌝ }
+fn judge(target: Target, line: &[u8]) -> Verdict
+    ensures { λ a. ⌜ a ≡ verdictOf target (now (line .entry)) ⌝ }
 {
     if LINE_LIMIT < line.len() {
         // Before a look at its bytes, so that no line takes longer than one of the limit.
-        return Verdict::Numbered(refusals::reading(true, true, true, true, true, true, true));
+        return stopped(true, true, true, true);
     }
     let scanned = shape::shape(line);
     if !scanned.good {
-        return Verdict::Numbered(refusals::reading(false, true, true, true, true, true, true));
+        return stopped(false, true, true, true);
     }
     let parts = scanned.parts;
-    from_parts(parts)
+    from_parts(target, parts)
 }
 
 // ---- the entry point
 
-// A line that is too long has no place.
-const NO_PLACE: u8 = 1;
+// A line that is too long has no place, nor has one that its target is too old for.
+const TOO_LONG: u8 = 1;
+
+const TOO_OLD: u8 = 12;
 
 fn refused(n: u8, line: &[u8]) -> Reading
     ensures { λ a. ⌜ answerOf a ≡ refusedBy n (now (line .entry)) ⌝ }
 {
-    if n == NO_PLACE {
+    if (n == TOO_LONG) | (n == TOO_OLD) {
         return Reading::Refused(n);
     }
     Reading::RefusedAt(n, places::place(n, line))
 }
 
-pub fn read(line: &[u8]) -> Reading
-    ensures { λ a. ⌜ Answers (now (line .entry)) (answerOf a) ⌝ }
+pub fn read(target: Target, line: &[u8]) -> Reading
+    ensures { λ a. ⌜ Answers target (now (line .entry)) (answerOf a) ⌝ }
 {
-    match judge(line) {
+    match judge(target, line) {
         Verdict::Accepted(r) => Reading::Record(r),
         Verdict::Numbered(n) => refused(n, line),
     }

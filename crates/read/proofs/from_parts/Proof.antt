@@ -24,14 +24,14 @@ returns c =
 enum-told : tie.Need-enum-told
 enum-told c = search needs
 
-reading-requires : tie.Need-reading-requires
-reading-requires c κs = search needs
+stopped-requires : tie.Need-stopped-requires
+stopped-requires c κs = search needs
 
 returns-2 : tie.Need-returns-2
 unfolding candidateOf
 returns-2 c =
     simp (
-      c .reading .ensures,
+      c .stopped .ensures,
       ← c .before .before .before .row .ensures,
       c .before .enum-told .given .1,
     )
@@ -39,14 +39,14 @@ returns-2 c =
 enum-told-2 : tie.Need-enum-told-2
 enum-told-2 c = search needs
 
-reading-requires-2 : tie.Need-reading-requires-2
-reading-requires-2 c κs = search needs
+stopped-requires-2 : tie.Need-stopped-requires-2
+stopped-requires-2 c κs = search needs
 
 returns-3 : tie.Need-returns-3
 unfolding candidateOf
 returns-3 c =
     simp (
-      c .reading2 .ensures,
+      c .stopped2 .ensures,
       ← c .before .before .before .row .ensures,
       c .before .enum-told2 .given .1,
     )
@@ -60,8 +60,8 @@ from-parts-spec =
     from-row-requires
     returns
     enum-told
-    reading-requires
+    stopped-requires
     returns-2
     enum-told-2
-    reading-requires-2
+    stopped-requires-2
     returns-3)

@@ -9,13 +9,13 @@ use Rattle.read.proofs.from_row.Tie as tie
 row-fits-requires : tie.Need-row-fits-requires
 row-fits-requires c κs = search needs
 
-reading-requires : tie.Need-reading-requires
-reading-requires c κs = search needs
+stopped-requires : tie.Need-stopped-requires
+stopped-requires c κs = search needs
 
 returns : tie.Need-returns
 returns c =
     simp (
-      c .reading .ensures,
+      c .stopped .ensures,
       failed (c .before .before .row-fits .ensures) (c .before .if1 .taken),
     )
 
@@ -28,19 +28,19 @@ enum-known-j c = search needs
 enum-told : tie.Need-enum-told
 enum-told c = search needs
 
-reading-requires-2 : tie.Need-reading-requires-2
-reading-requires-2 c κs = search needs
+stopped-requires-2 : tie.Need-stopped-requires-2
+stopped-requires-2 c κs = search needs
 
 returns-2 : tie.Need-returns-2
 returns-2 c =
     let g = c .before .before .before .before .before .before .args .g in
     simp (
-      c .reading2 .ensures,
+      c .stopped2 .ensures,
       passed (c .before .before .before .before .before .row-fits .ensures) (c .before .before .before .before .if1 .left),
       ← c .before .before .before .fill-in .ensures,
       c .before .enum-told .given .1,
     )
-    (ends-wrong (guardGood g) (recordOf (guardIn g) noInstruction))
+    (ends-wrong (c .before .before .before .before .before .before .args .target) (guardGood g) (recordOf (guardIn g) noInstruction))
 
 from-filled-requires : tie.Need-from-filled-requires
 from-filled-requires c κs = search needs
@@ -54,19 +54,19 @@ returns-3 c =
       ← c .before .before .before .before .fill-in .ensures,
       c .before .before .j .given .1,
     )
-    (ends-full (guardGood g) (recordOf (guardIn g) (c .before .before .j .given .0 .0)))
+    (ends-full (c .before .before .before .before .before .before .before .args .target) (guardGood g) (recordOf (guardIn g) (c .before .before .j .given .0 .0)))
 
 pub from-row-spec : {M : Type 1} → statement M
 from-row-spec =
     tie.close
     (tie.spec
     row-fits-requires
-    reading-requires
+    stopped-requires
     returns
     fill-in-requires
     enum-known-j
     enum-told
-    reading-requires-2
+    stopped-requires-2
     returns-2
     from-filled-requires
     returns-3)

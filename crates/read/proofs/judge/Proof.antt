@@ -9,25 +9,25 @@ use Rattle.read.specs.Mirror.{verdictOf}
 use Rattle.read.proofs.judge.Statement.{statement}
 use Rattle.read.proofs.judge.Tie as tie
 
-reading-requires : tie.Need-reading-requires
-reading-requires c κs = search needs
+stopped-requires : tie.Need-stopped-requires
+stopped-requires c κs = search needs
 
 returns : tie.Need-returns
 unfolding verdictOf
-returns c = simp (c .reading .ensures, lt-ltb _ _ (c .before .if1 .taken))
+returns c = simp (c .stopped .ensures, lt-ltb _ _ (c .before .if1 .taken))
 
 shape-requires : tie.Need-shape-requires
 shape-requires c κs = search needs
 
-reading-requires-2 : tie.Need-reading-requires-2
-reading-requires-2 c κs = search needs
+stopped-requires-2 : tie.Need-stopped-requires-2
+stopped-requires-2 c κs = search needs
 
 returns-2 : tie.Need-returns-2
 unfolding verdictOf
 returns-2 c =
     let line = now (c .before .before .before .before .before .before .args .line) in
     let bare : shapeOf line .good ≡ false = rw (← c .before .before .before .shape .ensures) (failed refl (c .before .if2 .taken)) in
-    simp (c .reading2 .ensures, bare, le-ltb _ _ (c .before .before .before .before .if1 .left))
+    simp (c .stopped2 .ensures, bare, le-ltb _ _ (c .before .before .before .before .if1 .left))
 
 from-parts-requires : tie.Need-from-parts-requires
 from-parts-requires c κs = search needs
@@ -43,10 +43,10 @@ pub judge-spec : {M : Type 1} → statement M
 judge-spec =
     tie.close
     (tie.spec
-    reading-requires
+    stopped-requires
     returns
     shape-requires
-    reading-requires-2
+    stopped-requires-2
     returns-2
     from-parts-requires
     returns-3)

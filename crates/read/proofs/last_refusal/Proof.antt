@@ -18,10 +18,14 @@ returns : tie.Need-returns
 returns c =
     simp (
       c .reading .ensures,
-      c .before .pair-apart .ensures,
-      c .before .before .numbers-in-range .ensures,
-      c .before .before .before .operands-fit .ensures,
+      c .before .allows .ensures,
+      c .before .before .pair-apart .ensures,
+      c .before .before .before .numbers-in-range .ensures,
+      c .before .before .before .before .operands-fit .ensures,
     )
+
+allows-requires : tie.Need-allows-requires
+allows-requires c κs = search needs
 
 pub last-refusal-spec : {M : Type 1} → statement M
 last-refusal-spec =
@@ -30,5 +34,6 @@ last-refusal-spec =
     operands-fit-requires
     numbers-in-range-requires
     pair-apart-requires
+    allows-requires
     reading-requires
     returns)
