@@ -1,7 +1,11 @@
 // The listing program: reads standard input and prints what crates `report` and `changes` make of it, some lines at a time, then the registers.
+// Its argument, if it has one, is the target's name.
 use changes::Printed;
+use libc::STDERR_FILENO;
 use libc::STDIN_FILENO;
 use libc::STDOUT_FILENO;
+use record::Target;
+use targets::Named;
 ghost use Prim.Native.Nat.{_≤_};
 ghost use mathlib.Core.Path.{_≡_};
 ghost use mathlib.Core.Bool.{true};
@@ -23,6 +27,7 @@ fn say_first(s: &[u8], n: usize) -> bool {
 
 // Calls `some_lines` until the listing ends, and prints what each call has put into the buffer; false, and no more is printed, where the system does not take it.
 fn say_lines(
+    target: Target,
     listing: &[u8],
     words: &mut [u32],
     halves: &mut [u16],
@@ -31,12 +36,22 @@ fn say_lines(
     out: &mut [u8],
 ) -> bool
     requires { ⌜ lineRoom ≤ length (now out) ⌝ }
-    ensures { λ r. ⌜ (r ≡ true → Told (now (listing .entry)) (files (now (words .entry)) (now (halves .entry)) (now (doubles .entry)) (now (preds .entry))) (files (now (words .exit)) (now (halves .exit)) (now (doubles .exit)) (now (preds .exit)))) ⌝ }
+    ensures { λ r. ⌜ (r ≡ true → Told target (now (listing .entry)) (files (now (words .entry)) (now (halves .entry)) (now (doubles .entry)) (now (preds .entry))) (files (now (words .exit)) (now (halves .exit)) (now (doubles .exit)) (now (preds .exit)))) ⌝ }
 {
     let mut at = 0;
     let mut number = 1;
     while at < listing.len() {
-        let p = report::some_lines(listing, at, number, words, halves, doubles, preds, out);
+        let p = report::some_lines(
+            target,
+            listing,
+            at,
+            number,
+            words,
+            halves,
+            doubles,
+            preds,
+            out,
+        );
         if !say_first(out, p.len) {
             return false;
         }
@@ -53,13 +68,14 @@ fn say_registers(words: &[u32], halves: &[u16], doubles: &[u64], preds: &[u8], o
     }
 }
 
-fn say_listing(listing: &[u8]) {
+fn say_listing(target: Target, listing: &[u8]) {
     let mut words = changes::start_words();
     let mut halves = changes::start_halves();
     let mut doubles = changes::start_doubles();
     let mut preds = changes::start_preds();
     let mut out = [0u8; 65536];
     if say_lines(
+        target,
         listing,
         &mut words,
         &mut halves,
@@ -71,8 +87,29 @@ fn say_listing(listing: &[u8]) {
     }
 }
 
+// The listing uses sm_30, unless another is given.
+fn target_given() -> Named {
+    if os::arg_count() < 2 {
+        return Named::Is(Target::Sm30);
+    }
+    if 2 < os::arg_count() {
+        return Named::Unknown;
+    }
+    // Of a longer word `arg` answers no byte, which is no name either.
+    let mut name = [0u8; 5];
+    let n = os::arg(1, &mut name);
+    targets::target_of(&name[..n])
+}
+
 fn main() {
+    let Named::Is(target) = target_given() else {
+        io::write_all(
+            STDERR_FILENO,
+            b"listing: the target is sm_10, sm_13, sm_20 or sm_30, one of them\n",
+        );
+        return;
+    };
     let mut input = [0u8; INPUT];
     let n = io::read_full(STDIN_FILENO, &mut input);
-    say_listing(&input[..n]);
+    say_listing(target, &input[..n]);
 }

@@ -12,6 +12,7 @@ use lib.Dec.{ltb, leb}
 use borrow.Author.Tests.{ltb-true, ltb-false, leb-true, leb-false, eq-eqb, ne-eqb}
 use Rattle.record.specs.Refusals.{Legal}
 use Rattle.record.specs.declared.Record.{Record}
+use Rattle.record.specs.declared.Target.{Target}
 use Rattle.record.specs.Registers.{Files}
 use Rattle.rules.specs.Executing.{run, done, skipped}
 use Rattle.rules.specs.Executing as executing
@@ -59,8 +60,8 @@ further-on size from end h k = go (ltb end size) refl
 
 -- ==== how long a line's text is
 
-pub legal-of : {l : List ℕ} {r : Record} → Answers l (read r) → Legal r
-legal-of (accepts m q h) = h
+pub legal-of : {target : Target} {l : List ℕ} {r : Record} → Answers target l (read r) → Legal r
+legal-of (accepts m q h) = h .legal
 
 -- the numbers of refusals have at most two digits
 low-number : {n : ℕ} (ns : List ℕ) → every (λ k. ltb k 100) ns ≡ true → Listed n ns → length (refusedText n) ≤ 28
@@ -68,21 +69,21 @@ low-number {n} ns e h =
     let k = ltb-true n 100 (of-every (λ k. ltb k 100) ns e n h) in
     simp length-append (omega (arith, decimal-short n (omega arith)))
 
-executed-short : (a : executing.Answer) (r : Record) (f : Files) → Legal r → run r f .answer ≡ a → length (executedText a r) ≤ 8 + longestLine
-executed-short done r f h e = simp length-append (omega (arith, standard-length r h))
-executed-short skipped r f h e = simp length-append (omega (arith, standard-length r h))
-executed-short (executing.refused n) r f h e = let k = low-number (8 ∷ 10 ∷ 11 ∷ []) refl (execute-refused r f n e .0) in omega arith
+executed-short : (target : Target) (a : executing.Answer) (r : Record) (f : Files) → Legal r → run target r f .answer ≡ a → length (executedText a r) ≤ 8 + longestLine
+executed-short target done r f h e = simp length-append (omega (arith, standard-length r h))
+executed-short target skipped r f h e = simp length-append (omega (arith, standard-length r h))
+executed-short target (executing.refused n) r f h e = let k = low-number (8 ∷ 12 ∷ 10 ∷ 11 ∷ []) refl (execute-refused target r f n e .0) in omega arith
 
-answer-short : {l : List ℕ} (a : Answer) (f : Files) → Answers l a → length (answerText a f) ≤ 8 + longestLine
-answer-short (read r) f q = executed-short (run r f .answer) r f (legal-of q) refl
-answer-short {l} (refused n) f q = let k = low-number readingOrder refl (refused-listed l n q) in omega arith
-answer-short {l} (refused-at n p) f q =
-    let k = low-number readingOrder refl (refused-at-listed l n p q) in
-    simp length-append (omega (arith, decimal-short p (omega (arith, refused-at-within l n p q))))
+answer-short : {target : Target} {l : List ℕ} (a : Answer) (f : Files) → Answers target l a → length (answerText target a f) ≤ 8 + longestLine
+answer-short {target} (read r) f q = executed-short target (run target r f .answer) r f (legal-of q) refl
+answer-short {target} {l} (refused n) f q = let k = low-number readingOrder refl (refused-listed target l n q) in omega arith
+answer-short {target} {l} (refused-at n p) f q =
+    let k = low-number readingOrder refl (refused-at-listed target l n p q) in
+    simp length-append (omega (arith, decimal-short p (omega (arith, refused-at-within target l n p q))))
 
-pub turn-short : {n : ℕ} {l t : List ℕ} {f g : Files} → n < 2 ^ 64 → Turn n l f t g → length t ≤ lineRoom
+pub turn-short : {target : Target} {n : ℕ} {l t : List ℕ} {f g : Files} → n < 2 ^ 64 → Turn target n l f t g → length t ≤ lineRoom
 unfolding printedLine
-turn-short {n} {l} {t} {f} {g} h u =
+turn-short {target} {n} {l} {t} {f} {g} h u =
     rw (u .text) (simp length-append (omega (arith, decimal-short n h, answer-short (u .answer) f (u .answers))))
 
 -- ==== the loop over the lines
@@ -101,22 +102,22 @@ room-there size at room {t} d h = go (ltb at size) (leb lineRoom room) refl refl
     go false q i j e = absurd (subst IsFalse e tt)
 
 -- so far: text is put, and what `some_lines` prints from here on goes behind it
-pub record Going (s : List ℕ) (from first : ℕ) (f : Files) (start : List ℕ) (at n used : ℕ) (g : Files) (out : List ℕ) : Type 0 where
+pub record Going (target : Target) (s : List ℕ) (from first : ℕ) (f : Files) (start : List ℕ) (at n used : ℕ) (g : Files) (out : List ℕ) : Type 0 where
   pub text : List ℕ
   pub puts : Puts (buffer start 0) text (buffer out used)
   pub fits : length text ≤ length start
-  pub rest : {u : List ℕ} {e m : ℕ} {h : Files} → SomeLines s (length start - length text) at n g u e m h → SomeLines s (length start) from first f (text ++ u) e m h
+  pub rest : {u : List ℕ} {e m : ℕ} {h : Files} → SomeLines target s (length start - length text) at n g u e m h → SomeLines target s (length start) from first f (text ++ u) e m h
 
-pub begins : (s : List ℕ) (from first : ℕ) (f : Files) (out : List ℕ) → Going s from first f out from first 0 f out
-begins s from first f out = record { text = []; puts = record { text = refl }; fits = omega arith; rest = λ x. rw (sub-zero (length out)) at x }
+pub begins : (target : Target) (s : List ℕ) (from first : ℕ) (f : Files) (out : List ℕ) → Going target s from first f out from first 0 f out
+begins target s from first f out = record { text = []; puts = record { text = refl }; fits = omega arith; rest = λ x. rw (sub-zero (length out)) at x }
 
-module _ {s : List ℕ} {from first : ℕ} {f : Files} {start : List ℕ} {at n used : ℕ} {g : Files} {out : List ℕ} (a : Going s from first f start at n used g out) where
+module _ {target : Target} {s : List ℕ} {from first : ℕ} {f : Files} {start : List ℕ} {at n used : ℕ} {g : Files} {out : List ℕ} (a : Going target s from first f start at n used g out) where
   pub used-length : used ≡ length (a .text)
   used-length = whole-front (a .puts) (a .fits) .0
 
   -- one line more
   pub goes-on : {h : Files} {after : List ℕ} {next : ℕ} → n < 2 ^ 64 → at < length s → lineRoom ≤ length start - used → length s ≤ listingLimit
-      → PutsTurn n (lineAt s at) g h (buffer out used) (buffer after next) → Going s from first f start (nextPlace s at) (nextNumber n) next h after
+      → PutsTurn target n (lineAt s at) g h (buffer out used) (buffer after next) → Going target s from first f start (nextPlace s at) (nextNumber n) next h after
   goes-on {h} {after} {next} w i r l p =
       let b : length (p .text) ≤ lineRoom = turn-short w (p .turn) in
       let d : length start - length (a .text ++ p .text) ≡ length start - length (a .text) - length (p .text) = simp length-append (omega arith) in
@@ -129,7 +130,7 @@ module _ {s : List ℕ} {from first : ℕ} {f : Files} {start : List ℕ} {at n 
       }
 
   -- no line left, or no room for one
-  pub stops : ltb at (length s) && leb lineRoom (length start - used) ≡ false → Prints s from first f start at n used g out
+  pub stops : ltb at (length s) && leb lineRoom (length start - used) ≡ false → Prints target s from first f start at n used g out
   stops e =
       record {
         text = a .text;
@@ -138,20 +139,20 @@ module _ {s : List ℕ} {from first : ℕ} {f : Files} {start : List ℕ} {at n 
         buffer = whole-front (a .puts) (a .fits) .1;
       }
     where
-      none-more : (p q : Bool) → ltb at (length s) ≡ p → leb lineRoom (length start - used) ≡ q → p && q ≡ false → SomeLines s (length start - length (a .text)) at n g [] at n g
+      none-more : (p q : Bool) → ltb at (length s) ≡ p → leb lineRoom (length start - used) ≡ q → p && q ≡ false → SomeLines target s (length start - length (a .text)) at n g [] at n g
       none-more false q i j e = ended (ltb-false at (length s) i)
       none-more true false i j e = no-room {room = length start - length (a .text)} (ltb-true at (length s) i) (omega (arith, used-length, leb-false lineRoom (length start - used) j))
       none-more true true i j e = absurd (subst IsFalse (sym e) tt)
 
 -- ==== a call that prints no line
 
-pub none-printed : (s : List ℕ) (from first : ℕ) (f : Files) (out : List ℕ) → ltb from (length s) && leb lineRoom (length out) ≡ false
-    → Prints s from first f out from first 0 f out
-none-printed s from first f out e = stops (begins s from first f out) (rw (sub-zero (length out)) e)
+pub none-printed : (target : Target) (s : List ℕ) (from first : ℕ) (f : Files) (out : List ℕ) → ltb from (length s) && leb lineRoom (length out) ≡ false
+    → Prints target s from first f out from first 0 f out
+none-printed target s from first f out e = stops (begins target s from first f out) (rw (sub-zero (length out)) e)
 
-pub over-limit : {s : List ℕ} {from first n : ℕ} {f : Files} {out after : List ℕ} → from < length s → lineRoom ≤ length out → listingLimit < length s
-    → Puts (buffer out 0) tooLongText (buffer after n) → Prints s from first f out (length s) first n f after
-over-limit {s} {from} {first} {n} {f} {out} {after} i r l p =
+pub over-limit : {target : Target} {s : List ℕ} {from first n : ℕ} {f : Files} {out after : List ℕ} → from < length s → lineRoom ≤ length out → listingLimit < length s
+    → Puts (buffer out 0) tooLongText (buffer after n) → Prints target s from first f out (length s) first n f after
+over-limit {target} {s} {from} {first} {n} {f} {out} {after} i r l p =
     let k : length tooLongText ≤ length out = omega arith in
     record {
       text = tooLongText;

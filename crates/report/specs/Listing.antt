@@ -1,4 +1,4 @@
--- Document 01, the listing program (under "Bench figures"): what it prints of a listing.
+-- Document 01, the listing program (under "Bench figures"): what it prints of a listing, T-07: at a target; the listing uses sm_30.
 use Prim.Native.Nat.{ℕ, suc, _≤_, _<_}
 use mathlib.Core.Path.{_≡_}
 use mathlib.Core.Bool.{cond}
@@ -7,6 +7,7 @@ use lib.ListN.{length}
 use lib.Dec.{eqb}
 use Rattle.signs.specs.Text.{bytes}
 use Rattle.record.specs.declared.Record.{Record}
+use Rattle.record.specs.declared.Target.{Target}
 use Rattle.record.specs.Registers.{Files}
 use Rattle.rules.specs.Executing.{done, skipped, run}
 use Rattle.rules.specs.Executing as executing
@@ -54,36 +55,36 @@ executedText skipped r = bytes "skipped " ++ standard r
 executedText (executing.refused n) r = refusedText n
 
 -- a line that was read is executed
-abbrev pub answerText : Answer → Files → List ℕ
-answerText (read r) f = executedText (run r f .answer) r
-answerText (refused n) f = refusedText n
-answerText (refused-at n p) f = placedText n p
+abbrev pub answerText : Target → Answer → Files → List ℕ
+answerText target (read r) f = executedText (run target r f .answer) r
+answerText target (refused n) f = refusedText n
+answerText target (refused-at n p) f = placedText n p
 
-abbrev pub filesAfter : Answer → Files → Files
-filesAfter (read r) f = run r f .files
-filesAfter (refused n) f = f
-filesAfter (refused-at n p) f = f
+abbrev pub filesAfter : Target → Answer → Files → Files
+filesAfter target (read r) f = run target r f .files
+filesAfter target (refused n) f = f
+filesAfter target (refused-at n p) f = f
 
 -- the line's number comes first, from 1 on
-unfoldable pub printedLine : ℕ → Answer → Files → List ℕ
-printedLine n a f = decimal n ++ bytes " " ++ answerText a f ++ (lineFeed ∷ [])
+unfoldable pub printedLine : Target → ℕ → Answer → Files → List ℕ
+printedLine target n a f = decimal n ++ bytes " " ++ answerText target a f ++ (lineFeed ∷ [])
 
 -- line number n, which is l, on files f: the text t is printed, the files are g then
-pub record Turn (n : ℕ) (l : List ℕ) (f : Files) (t : List ℕ) (g : Files) : Type 0 where
+pub record Turn (target : Target) (n : ℕ) (l : List ℕ) (f : Files) (t : List ℕ) (g : Files) : Type 0 where
   pub answer : Answer
-  pub answers : Answers l answer
-  pub text : t ≡ printedLine n answer f
-  pub files : g ≡ filesAfter answer f
+  pub answers : Answers target l answer
+  pub text : t ≡ printedLine target n answer f
+  pub files : g ≡ filesAfter target answer f
 
 -- the lines one after another, the first with number n
-pub data Turns : ℕ → List (List ℕ) → Files → List ℕ → Files → Type 0 where
-  none : {n : ℕ} {f : Files} → Turns n [] f [] f
-  more : {n : ℕ} {l : List ℕ} {ls : List (List ℕ)} {f g h : Files} {t u : List ℕ} → Turn n l f t g → Turns (suc n) ls g u h → Turns n (l ∷ ls) f (t ++ u) h
+pub data Turns (target : Target) : ℕ → List (List ℕ) → Files → List ℕ → Files → Type 0 where
+  none : {n : ℕ} {f : Files} → Turns target n [] f [] f
+  more : {n : ℕ} {l : List ℕ} {ls : List (List ℕ)} {f g h : Files} {t u : List ℕ} → Turn target n l f t g → Turns target (suc n) ls g u h → Turns target n (l ∷ ls) f (t ++ u) h
 
 -- ==== the whole output
 
-pub data Output (s : List ℕ) : List ℕ → Type 0 where
+pub data Output (target : Target) (s : List ℕ) : List ℕ → Type 0 where
   -- more: it prints `input too long` alone
-  too-long : listingLimit < length s → Output s tooLongText
+  too-long : listingLimit < length s → Output target s tooLongText
   -- a line for each line, then the registers
-  printed : {t : List ℕ} {g : Files} → length s ≤ listingLimit → Turns 1 (linesOf s) startFiles t g → Output s (t ++ registersText g)
+  printed : {t : List ℕ} {g : Files} → length s ≤ listingLimit → Turns target 1 (linesOf s) startFiles t g → Output target s (t ++ registersText g)

@@ -10,6 +10,7 @@ use lib.ListN.{length, take, drop, length-append, length-drop, drop-of-length-le
 use lib.Seq.{drop-drop, append-snoc}
 use lib.Dec.{eqb, ltb}
 use borrow.Author.Tests.{ltb-true, ltb-false}
+use Rattle.record.specs.declared.Target.{Target}
 use Rattle.record.specs.Registers.{Files}
 use Rattle.rules.specs.Reading.{Answer}
 use Rattle.rules.specs.Writing.{front}
@@ -25,45 +26,45 @@ use Rattle.report.specs.ChunkLaws.{further-on}
 
 -- ==== every listing has an output, and no listing has two
 
-turn-of : (n : ℕ) (l : List ℕ) (f : Files) → Turn n l f (printedLine n (readOf l) f) (filesAfter (readOf l) f)
-turn-of n l f = record { answer = readOf l; answers = answers l; text = refl; files = refl }
+turn-of : (target : Target) (n : ℕ) (l : List ℕ) (f : Files) → Turn target n l f (printedLine target n (readOf target l) f) (filesAfter target (readOf target l) f)
+turn-of target n l f = record { answer = readOf target l; answers = answers target l; text = refl; files = refl }
 
 -- what a line prints, and what it leaves in the files, is one thing
-pub turn-one : {n : ℕ} {l t u : List ℕ} {f g h : Files} → Turn n l f t g → Turn n l f u h → (t ≡ u) × (g ≡ h)
-turn-one {n} {l} {t} {u} {f} {g} {h} a b =
-    let e : a .answer ≡ b .answer = answers-unique l (a .answer) (b .answer) (a .answers) (b .answers) in (
-      a .text ∙ ap (λ (x : Answer). printedLine n x f) e ∙ sym (b .text),
-      a .files ∙ ap (λ (x : Answer). filesAfter x f) e ∙ sym (b .files),
+pub turn-one : {target : Target} {n : ℕ} {l t u : List ℕ} {f g h : Files} → Turn target n l f t g → Turn target n l f u h → (t ≡ u) × (g ≡ h)
+turn-one {target} {n} {l} {t} {u} {f} {g} {h} a b =
+    let e : a .answer ≡ b .answer = answers-unique target l (a .answer) (b .answer) (a .answers) (b .answers) in (
+      a .text ∙ ap (λ (x : Answer). printedLine target n x f) e ∙ sym (b .text),
+      a .files ∙ ap (λ (x : Answer). filesAfter target x f) e ∙ sym (b .files),
     )
 
-pub record AllTurns (n : ℕ) (ls : List (List ℕ)) (f : Files) : Type 0 where
+pub record AllTurns (target : Target) (n : ℕ) (ls : List (List ℕ)) (f : Files) : Type 0 where
   pub text : List ℕ
   pub files : Files
-  pub turns : Turns n ls f text files
+  pub turns : Turns target n ls f text files
 
-all-turns : (n : ℕ) (ls : List (List ℕ)) (f : Files) → AllTurns n ls f
-all-turns n [] f = record { text = []; files = f; turns = none }
-all-turns n (l ∷ ls) f =
-    let r = all-turns (suc n) ls (filesAfter (readOf l) f) in
-    record { text = printedLine n (readOf l) f ++ r .text; files = r .files; turns = more (turn-of n l f) (r .turns) }
+all-turns : (target : Target) (n : ℕ) (ls : List (List ℕ)) (f : Files) → AllTurns target n ls f
+all-turns target n [] f = record { text = []; files = f; turns = none }
+all-turns target n (l ∷ ls) f =
+    let r = all-turns target (suc n) ls (filesAfter target (readOf target l) f) in
+    record { text = printedLine target n (readOf target l) f ++ r .text; files = r .files; turns = more (turn-of target n l f) (r .turns) }
 
-pub turns-one : {n : ℕ} {ls : List (List ℕ)} {t u : List ℕ} {f g h : Files} → Turns n ls f t g → Turns n ls f u h → (t ≡ u) × (g ≡ h)
+pub turns-one : {target : Target} {n : ℕ} {ls : List (List ℕ)} {t u : List ℕ} {f g h : Files} → Turns target n ls f t g → Turns target n ls f u h → (t ≡ u) × (g ≡ h)
 turns-one none none = (refl, refl)
-turns-one (more {n = n} {ls = ls} {t = t} {u = u} a x) (more {h = h} {t = t′} {u = u′} b y) =
+turns-one {target} (more {n = n} {ls = ls} {t = t} {u = u} a x) (more {h = h} {t = t′} {u = u′} b y) =
     let e = turn-one a b in
-    let r = turns-one x (subst (λ (g : Files). Turns (suc n) ls g u′ h) (sym (e .1)) y) in
+    let r = turns-one x (subst (λ (g : Files). Turns target (suc n) ls g u′ h) (sym (e .1)) y) in
     (ap₂ (λ (p q : List ℕ). p ++ q) (e .0) (r .0), r .1)
 
-pub every-listing : (s : List ℕ) → (t : List ℕ) × Output s t
-every-listing s = go (ltb listingLimit (length s)) refl
+pub every-listing : (target : Target) (s : List ℕ) → (t : List ℕ) × Output target s t
+every-listing target s = go (ltb listingLimit (length s)) refl
   where
-    go : (b : Bool) → ltb listingLimit (length s) ≡ b → (t : List ℕ) × Output s t
+    go : (b : Bool) → ltb listingLimit (length s) ≡ b → (t : List ℕ) × Output target s t
     go true e = (tooLongText, too-long (ltb-true listingLimit (length s) e))
     go false e =
-        let r = all-turns 1 (linesOf s) startFiles in
+        let r = all-turns target 1 (linesOf s) startFiles in
         (r .text ++ registersText (r .files), printed (ltb-false listingLimit (length s) e) (r .turns))
 
-pub one-output : {s t u : List ℕ} → Output s t → Output s u → t ≡ u
+pub one-output : {target : Target} {s t u : List ℕ} → Output target s t → Output target s u → t ≡ u
 one-output (too-long a) (too-long b) = refl
 one-output (too-long a) (printed b y) = absurd (omega arith)
 one-output (printed a x) (too-long b) = absurd (omega arith)
@@ -113,34 +114,34 @@ next-counted s from n h c =
     (mod-eq-of-lt (omega arith) ∙ add-one n, omega arith)
 
 -- the lines that are printed from a place on are those printed by one call, and those from where it stopped
-record Joined (s : List ℕ) (from n : ℕ) (f : Files) (t : List ℕ) (e m : ℕ) (g : Files) : Type 0 where
+record Joined (target : Target) (s : List ℕ) (from n : ℕ) (f : Files) (t : List ℕ) (e m : ℕ) (g : Files) : Type 0 where
   counted : Counted s e m
-  join : {u : List ℕ} {h : Files} → Turns m (linesOf (drop e s)) g u h → Turns n (linesOf (drop from s)) f (t ++ u) h
+  join : {u : List ℕ} {h : Files} → Turns target m (linesOf (drop e s)) g u h → Turns target n (linesOf (drop from s)) f (t ++ u) h
 
-joined : {s t : List ℕ} {room from n e m : ℕ} {f g : Files} → length s ≤ listingLimit → Counted s from n → SomeLines s room from n f t e m g → Joined s from n f t e m g
+joined : {target : Target} {s t : List ℕ} {room from n e m : ℕ} {f g : Files} → length s ≤ listingLimit → Counted s from n → SomeLines target s room from n f t e m g → Joined target s from n f t e m g
 joined l c (ended a) = record { counted = c; join = λ x. x }
 joined l c (no-room a b) = record { counted = c; join = λ x. x }
 joined l c (chunks.too-long a b d) = absurd (omega arith)
-joined {s} l c (one-more {from = from} {n = n} {e = e} {m = m} {f = f} {g = g} {h = h} {t = t} {u = u} a b d p x) =
+joined {target} {s} l c (one-more {from = from} {n = n} {e = e} {m = m} {f = f} {g = g} {h = h} {t = t} {u = u} a b d p x) =
     let k = next-counted s from n a c in
     let j = joined l (subst (Counted s (nextPlace s from)) (sym (k .0)) (k .1)) x in
     record {
       counted = j .counted;
       join = λ {u = v} {h = w} z.
           rw (first-line s from a, append-assoc t u v)
-          (more p (subst (λ (i : ℕ). Turns i (linesOf (drop (nextPlace s from) s)) g (u ++ v) w) (k .0) (j .join z)));
+          (more p (subst (λ (i : ℕ). Turns target i (linesOf (drop (nextPlace s from) s)) g (u ++ v) w) (k .0) (j .join z)));
     }
 
-calls-turns : {s t : List ℕ} {from n : ℕ} {f g : Files} → length s ≤ listingLimit → Counted s from n → Calls s from n f t g → Turns n (linesOf (drop from s)) f t g
-calls-turns {s} {t} {from} l c (chunks.none a) = rw (no-lines s from a) none
+calls-turns : {target : Target} {s t : List ℕ} {from n : ℕ} {f g : Files} → length s ≤ listingLimit → Counted s from n → Calls target s from n f t g → Turns target n (linesOf (drop from s)) f t g
+calls-turns {target} {s} {t} {from} l c (chunks.none a) = rw (no-lines s from a) none
 calls-turns l c (chunks.more a b x y) = let j = joined l c x in j .join (calls-turns l (j .counted) y)
 
 -- a listing over the limit
-none-left : {s t : List ℕ} {from n : ℕ} {f g : Files} → length s ≤ from → Calls s from n f t g → (t ≡ []) × (f ≡ g)
+none-left : {target : Target} {s t : List ℕ} {from n : ℕ} {f g : Files} → length s ≤ from → Calls target s from n f t g → (t ≡ []) × (f ≡ g)
 none-left h (chunks.none a) = (refl, refl)
 none-left h (chunks.more a b x y) = absurd (omega arith)
 
-over : {s t : List ℕ} {from n : ℕ} {f g : Files} → listingLimit < length s → from < length s → Calls s from n f t g → (t ≡ tooLongText) × (f ≡ g)
+over : {target : Target} {s t : List ℕ} {from n : ℕ} {f g : Files} → listingLimit < length s → from < length s → Calls target s from n f t g → (t ≡ tooLongText) × (f ≡ g)
 over l h (chunks.none a) = absurd (omega arith)
 over l h (chunks.more a b (ended c) y) = absurd (omega arith)
 over l h (chunks.more a b (no-room c d) y) = absurd (omega arith)
@@ -154,14 +155,14 @@ unfolding registersText changesText changeText startFiles
 none-changed = refl
 
 -- the listing program: calls of `some_lines` from the start, until the listing ends, and the registers then
-pub calls-output : (s : List ℕ) {t : List ℕ} {g : Files} → Calls s 0 1 startFiles t g → Output s (t ++ registersText g)
-calls-output s {t} {g} x = go (ltb listingLimit (length s)) refl
+pub calls-output : (target : Target) (s : List ℕ) {t : List ℕ} {g : Files} → Calls target s 0 1 startFiles t g → Output target s (t ++ registersText g)
+calls-output target s {t} {g} x = go (ltb listingLimit (length s)) refl
   where
-    go : (p : Bool) → ltb listingLimit (length s) ≡ p → Output s (t ++ registersText g)
+    go : (p : Bool) → ltb listingLimit (length s) ≡ p → Output target s (t ++ registersText g)
     go true e =
         let l : listingLimit < length s = ltb-true listingLimit (length s) e in
         let r = over l (omega arith) x in
-        subst (Output s) (sym (ap₂ (λ (u : List ℕ) (h : Files). u ++ registersText h) (r .0) (sym (r .1)) ∙ ap (λ (u : List ℕ). tooLongText ++ u) none-changed ∙ append-nil tooLongText)) (too-long l)
+        subst (Output target s) (sym (ap₂ (λ (u : List ℕ) (h : Files). u ++ registersText h) (r .0) (sym (r .1)) ∙ ap (λ (u : List ℕ). tooLongText ++ u) none-changed ∙ append-nil tooLongText)) (too-long l)
     go false e =
         let l : length s ≤ listingLimit = ltb-false listingLimit (length s) e in
         printed l (calls-turns l (omega arith) x)
@@ -177,15 +178,15 @@ pub record Same (t u : List ℕ) (e d m k : ℕ) (g h : Files) : Type 0 where
 alike : {t : List ℕ} {e m : ℕ} {g : Files} → Same t t e e m m g g
 alike = record { text = refl; place = refl; number = refl; files = refl }
 
-pub some-one : {s t u : List ℕ} {room from n e d m k : ℕ} {f g h : Files} → SomeLines s room from n f t e m g → SomeLines s room from n f u d k h → Same t u e d m k g h
+pub some-one : {target : Target} {s t u : List ℕ} {room from n e d m k : ℕ} {f g h : Files} → SomeLines target s room from n f t e m g → SomeLines target s room from n f u d k h → Same t u e d m k g h
 some-one (ended a) (ended b) = alike
 some-one (no-room a b) (no-room c d) = alike
 some-one (chunks.too-long a b c) (chunks.too-long d e f) = alike
-some-one {s} (one-more {room = room} {from = from} {n = n} {g = g} {t = t} a b c p x) (one-more {e = e} {m = m} {g = g′} {h = h} {t = t′} {u = u} a′ b′ c′ q y) =
+some-one {target} {s} (one-more {room = room} {from = from} {n = n} {g = g} {t = t} a b c p x) (one-more {e = e} {m = m} {g = g′} {h = h} {t = t′} {u = u} a′ b′ c′ q y) =
     let i = turn-one p q in
-    let z : SomeLines s (room - length t) (nextPlace s from) (nextNumber n) g u e m h =
-    subst (λ (v : List ℕ). SomeLines s (room - length v) (nextPlace s from) (nextNumber n) g u e m h) (sym (i .0))
-    (subst (λ (w : Files). SomeLines s (room - length t′) (nextPlace s from) (nextNumber n) w u e m h) (sym (i .1)) y) in
+    let z : SomeLines target s (room - length t) (nextPlace s from) (nextNumber n) g u e m h =
+    subst (λ (v : List ℕ). SomeLines target s (room - length v) (nextPlace s from) (nextNumber n) g u e m h) (sym (i .0))
+    (subst (λ (w : Files). SomeLines target s (room - length t′) (nextPlace s from) (nextNumber n) w u e m h) (sym (i .1)) y) in
     let r = some-one x z in
     record { text = ap₂ (λ (v w : List ℕ). v ++ w) (i .0) (r .text); place = r .place; number = r .number; files = r .files }
 some-one (ended a) (no-room b c) = absurd (omega arith)
@@ -213,9 +214,9 @@ progress-one x y a n l =
     progress : ℕ → ℕ → ℕ → Progress
     progress i j k = record { at = i; number = j; len = k }
 
-pub prints-one : {s out a b : List ℕ} {from n : ℕ} {f g h : Files} (x y : Progress)
-    → Prints s from n f out (x .at) (x .number) (x .len) g a → Prints s from n f out (y .at) (y .number) (y .len) h b → SameCall x y g h a b
-prints-one {s} {out} x y p q =
+pub prints-one : {target : Target} {s out a b : List ℕ} {from n : ℕ} {f g h : Files} (x y : Progress)
+    → Prints target s from n f out (x .at) (x .number) (x .len) g a → Prints target s from n f out (y .at) (y .number) (y .len) h b → SameCall x y g h a b
+prints-one {target} {s} {out} x y p q =
     let i = some-one (p .some) (q .some) in
     record {
       answer = progress-one x y (i .place) (i .number) (p .length-of ∙ ap length (i .text) ∙ sym (q .length-of));
@@ -225,47 +226,47 @@ prints-one {s} {out} x y p q =
 
 -- ==== what a caller's loop needs
 
-goes-forward : {s t : List ℕ} {room from n e m : ℕ} {f g : Files} → SomeLines s room from n f t e m g → from ≤ e
+goes-forward : {target : Target} {s t : List ℕ} {room from n e m : ℕ} {f g : Files} → SomeLines target s room from n f t e m g → from ≤ e
 goes-forward (ended a) = omega arith
 goes-forward (no-room a b) = omega arith
 goes-forward (chunks.too-long a b c) = omega arith
-goes-forward {s} (one-more {from = from} a b c p x) =
+goes-forward {target} {s} (one-more {from = from} a b c p x) =
     let k = further-on (length s) from (from + lineLength (drop from s)) a (omega arith) in
     omega (arith, goes-forward x)
 
 -- a call with room for a line goes on
-pub call-goes-on : {s t : List ℕ} {room from n e m : ℕ} {f g : Files} → from < length s → lineRoom ≤ room → SomeLines s room from n f t e m g → from < e
+pub call-goes-on : {target : Target} {s t : List ℕ} {room from n e m : ℕ} {f g : Files} → from < length s → lineRoom ≤ room → SomeLines target s room from n f t e m g → from < e
 call-goes-on h r (ended a) = absurd (omega arith)
 call-goes-on h r (no-room a b) = absurd (omega arith)
 call-goes-on h r (chunks.too-long a b c) = omega arith
-call-goes-on {s} h r (one-more {from = from} a b c p x) =
+call-goes-on {target} {s} h r (one-more {from = from} a b c p x) =
     let k = further-on (length s) from (from + lineLength (drop from s)) a (omega arith) in
     omega (arith, goes-forward x)
 
 -- so far: calls printed text, and what is called from here on goes behind it
-pub record Called (s : List ℕ) (f : Files) (from n : ℕ) (g : Files) : Type 0 where
+pub record Called (target : Target) (s : List ℕ) (f : Files) (from n : ℕ) (g : Files) : Type 0 where
   pub text : List ℕ
-  pub rest : {u : List ℕ} {h : Files} → Calls s from n g u h → Calls s 0 1 f (text ++ u) h
+  pub rest : {u : List ℕ} {h : Files} → Calls target s from n g u h → Calls target s 0 1 f (text ++ u) h
 
-pub none-called : (s : List ℕ) (f : Files) → Called s f 0 1 f
-none-called s f = record { text = []; rest = λ x. x }
+pub none-called : (target : Target) (s : List ℕ) (f : Files) → Called target s f 0 1 f
+none-called target s f = record { text = []; rest = λ x. x }
 
-pub called : {s out after : List ℕ} {from n e m len : ℕ} {f g h : Files} → Called s f from n g → from < length s → lineRoom ≤ length out
-    → Prints s from n g out e m len h after → Called s f e m h
-called {s} {out} c i r p =
+pub called : {target : Target} {s out after : List ℕ} {from n e m len : ℕ} {f g h : Files} → Called target s f from n g → from < length s → lineRoom ≤ length out
+    → Prints target s from n g out e m len h after → Called target s f e m h
+called {target} {s} {out} c i r p =
     record {
       text = c .text ++ p .text;
       rest = λ {u = u} x. rw (append-assoc (c .text) (p .text) u) (c .rest (chunks.more {room = length out} i r (p .some) x));
     }
 
 -- calls until the listing ends have left the files g, and printed some text
-pub record Told (s : List ℕ) (f g : Files) : Type 0 where
+pub record Told (target : Target) (s : List ℕ) (f g : Files) : Type 0 where
   pub text : List ℕ
-  pub calls : Calls s 0 1 f text g
+  pub calls : Calls target s 0 1 f text g
 
 -- with the registers' text behind it that is the listing's output
-pub told-output : {s : List ℕ} {g : Files} (a : Told s startFiles g) → Output s (a .text ++ registersText g)
-told-output {s} a = calls-output s (a .calls)
+pub told-output : {target : Target} {s : List ℕ} {g : Files} (a : Told target s startFiles g) → Output target s (a .text ++ registersText g)
+told-output {target} {s} a = calls-output target s (a .calls)
 
-pub told : {s : List ℕ} {from n : ℕ} {f g : Files} → Called s f from n g → length s ≤ from → Told s f g
-told {s} {from} {n} {f} {g} c h = record { text = c .text ++ []; calls = c .rest (chunks.none h) }
+pub told : {target : Target} {s : List ℕ} {from n : ℕ} {f g : Files} → Called target s f from n g → length s ≤ from → Told target s f g
+told {target} {s} {from} {n} {f} {g} c h = record { text = c .text ++ []; calls = c .rest (chunks.none h) }

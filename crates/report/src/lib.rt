@@ -1,7 +1,8 @@
-// What the listing program prints of a listing's lines: each with its answer. Crate changes prints the registers behind them.
+// What the listing program prints of a listing's lines at a target: each with its answer. Crate changes prints the registers behind them.
 use execute::Executed;
 use read::Reading;
 use record::Record;
+use record::Target;
 use write::Written;
 ghost use mathlib.Core.Path.{_≡_};
 ghost use mathlib.Core.Bool.{_&&_};
@@ -93,6 +94,7 @@ fn put_executed(out: &mut [u8], at: usize, r: Record, x: Executed) -> usize
 
 // Executes the record on the lent files.
 fn put_run(
+    target: Target,
     out: &mut [u8],
     at: usize,
     r: Record,
@@ -102,15 +104,16 @@ fn put_run(
     preds: &mut [u8],
 ) -> usize
     requires { ⌜ Legal r ⌝ }
-    ensures { λ m. ⌜ Puts (buffer (now (out .entry)) at) (executedText (run r (files (now (words .entry)) (now (halves .entry)) (now (doubles .entry)) (now (preds .entry))) .answer) r) (buffer (now (out .exit)) m) ⌝ }
-    ensures { λ _. ⌜ files (now (words .exit)) (now (halves .exit)) (now (doubles .exit)) (now (preds .exit)) ≡ run r (files (now (words .entry)) (now (halves .entry)) (now (doubles .entry)) (now (preds .entry))) .files ⌝ }
+    ensures { λ m. ⌜ Puts (buffer (now (out .entry)) at) (executedText (run target r (files (now (words .entry)) (now (halves .entry)) (now (doubles .entry)) (now (preds .entry))) .answer) r) (buffer (now (out .exit)) m) ⌝ }
+    ensures { λ _. ⌜ files (now (words .exit)) (now (halves .exit)) (now (doubles .exit)) (now (preds .exit)) ≡ run target r (files (now (words .entry)) (now (halves .entry)) (now (doubles .entry)) (now (preds .entry))) .files ⌝ }
 {
-    let x = execute::execute(r, words, halves, doubles, preds);
+    let x = execute::execute(target, r, words, halves, doubles, preds);
     put_executed(out, at, r, x)
 }
 
-// Reads the line and, where it is a record, executes it.
+// Reads the line at the target and, where it is a record, executes it.
 fn put_answer(
+    target: Target,
     out: &mut [u8],
     at: usize,
     line: &[u8],
@@ -119,10 +122,10 @@ fn put_answer(
     doubles: &mut [u64],
     preds: &mut [u8],
 ) -> usize
-    ensures { λ m. ⌜ PutsAnswer (now (line .entry)) (files (now (words .entry)) (now (halves .entry)) (now (doubles .entry)) (now (preds .entry))) (files (now (words .exit)) (now (halves .exit)) (now (doubles .exit)) (now (preds .exit))) (buffer (now (out .entry)) at) (buffer (now (out .exit)) m) ⌝ }
+    ensures { λ m. ⌜ PutsAnswer target (now (line .entry)) (files (now (words .entry)) (now (halves .entry)) (now (doubles .entry)) (now (preds .entry))) (files (now (words .exit)) (now (halves .exit)) (now (doubles .exit)) (now (preds .exit))) (buffer (now (out .entry)) at) (buffer (now (out .exit)) m) ⌝ }
 {
-    match read::read(line) {
-        Reading::Record(r) => put_run(out, at, r, words, halves, doubles, preds),
+    match read::read(target, line) {
+        Reading::Record(r) => put_run(target, out, at, r, words, halves, doubles, preds),
         Reading::Refused(n) => put_refused(out, at, n),
         Reading::RefusedAt(n, place) => put_placed(out, at, n, place),
     }
@@ -130,6 +133,7 @@ fn put_answer(
 
 // The text of line number `number`: its number, what became of it, a line feed.
 fn put_line(
+    target: Target,
     out: &mut [u8],
     at: usize,
     number: u64,
@@ -139,11 +143,11 @@ fn put_line(
     doubles: &mut [u64],
     preds: &mut [u8],
 ) -> usize
-    ensures { λ m. ⌜ PutsTurn number (now (line .entry)) (files (now (words .entry)) (now (halves .entry)) (now (doubles .entry)) (now (preds .entry))) (files (now (words .exit)) (now (halves .exit)) (now (doubles .exit)) (now (preds .exit))) (buffer (now (out .entry)) at) (buffer (now (out .exit)) m) ⌝ }
+    ensures { λ m. ⌜ PutsTurn target number (now (line .entry)) (files (now (words .entry)) (now (halves .entry)) (now (doubles .entry)) (now (preds .entry))) (files (now (words .exit)) (now (halves .exit)) (now (doubles .exit)) (now (preds .exit))) (buffer (now (out .entry)) at) (buffer (now (out .exit)) m) ⌝ }
 {
     let at1 = text::put_decimal(out, at, number);
     let at2 = text::push(out, at1, b' ');
-    let at3 = put_answer(out, at2, line, words, halves, doubles, preds);
+    let at3 = put_answer(target, out, at2, line, words, halves, doubles, preds);
     text::push(out, at3, LINE_FEED)
 }
 
@@ -182,6 +186,7 @@ fn goes_on(size: usize, at: usize, room: usize) -> bool
 }
 
 fn print_lines(
+    target: Target,
     listing: &[u8],
     from: usize,
     first: u64,
@@ -192,7 +197,7 @@ fn print_lines(
     out: &mut [u8],
 ) -> Progress
     requires { ⌜ length (now listing) ≤ listingLimit ⌝ }
-    ensures { λ r. ⌜ Prints (now (listing .entry)) from first (files (now (words .entry)) (now (halves .entry)) (now (doubles .entry)) (now (preds .entry))) (now (out .entry)) (r .at) (r .number) (r .len) (files (now (words .exit)) (now (halves .exit)) (now (doubles .exit)) (now (preds .exit))) (now (out .exit)) ⌝ }
+    ensures { λ r. ⌜ Prints target (now (listing .entry)) from first (files (now (words .entry)) (now (halves .entry)) (now (doubles .entry)) (now (preds .entry))) (now (out .entry)) (r .at) (r .number) (r .len) (files (now (words .exit)) (now (halves .exit)) (now (doubles .exit)) (now (preds .exit))) (now (out .exit)) ⌝ }
 {
     let mut at = from;
     let mut number = first;
@@ -200,6 +205,7 @@ fn print_lines(
     while goes_on(listing.len(), at, out.len() - used) {
         let end = line_end(listing, at);
         used = put_line(
+            target,
             out,
             used,
             number,
@@ -222,7 +228,7 @@ fn print_lines(
 // A listing over the limit: one text, and the listing is at its end.
 fn too_long(listing: &[u8], from: usize, first: u64, out: &mut [u8]) -> Progress
     requires { ⌜ listingLimit < length (now listing) ⌝ }
-    ensures { λ r. ⌜ ((f : Files) → Prints (now (listing .entry)) from first f (now (out .entry)) (r .at) (r .number) (r .len) f (now (out .exit))) ⌝ }
+    ensures { λ r. ⌜ ((target : Target) (f : Files) → Prints target (now (listing .entry)) from first f (now (out .entry)) (r .at) (r .number) (r .len) f (now (out .exit))) ⌝ }
 {
     if !goes_on(listing.len(), from, out.len()) {
         return Progress {
@@ -239,8 +245,9 @@ fn too_long(listing: &[u8], from: usize, first: u64, out: &mut [u8]) -> Progress
     }
 }
 
-// The lines from a place on, where line number `first` begins, as many as there are and as out has room for.
+// The lines at a target, from a place on, where line number `first` begins, as many as there are and as out has room for.
 pub fn some_lines(
+    target: Target,
     listing: &[u8],
     from: usize,
     first: u64,
@@ -250,10 +257,20 @@ pub fn some_lines(
     preds: &mut [u8],
     out: &mut [u8],
 ) -> Progress
-    ensures { λ r. ⌜ Prints (now (listing .entry)) from first (files (now (words .entry)) (now (halves .entry)) (now (doubles .entry)) (now (preds .entry))) (now (out .entry)) (r .at) (r .number) (r .len) (files (now (words .exit)) (now (halves .exit)) (now (doubles .exit)) (now (preds .exit))) (now (out .exit)) ⌝ }
+    ensures { λ r. ⌜ Prints target (now (listing .entry)) from first (files (now (words .entry)) (now (halves .entry)) (now (doubles .entry)) (now (preds .entry))) (now (out .entry)) (r .at) (r .number) (r .len) (files (now (words .exit)) (now (halves .exit)) (now (doubles .exit)) (now (preds .exit))) (now (out .exit)) ⌝ }
 {
     if LISTING_LIMIT < listing.len() {
         return too_long(listing, from, first, out);
     }
-    print_lines(listing, from, first, words, halves, doubles, preds, out)
+    print_lines(
+        target,
+        listing,
+        from,
+        first,
+        words,
+        halves,
+        doubles,
+        preds,
+        out,
+    )
 }
