@@ -1,5 +1,6 @@
--- The user's three demands, in their words and order, as laws of the whole bench: document 01 with the requests that have landed (T-01, T-02, T-04, T-05, T-06). The laws of T-14,
--- which changed no answer, stand beside this file, in TakenApart.antt; what stands at each place of T-05, in WhereWrong.antt.
+-- The user's three demands, in their words and order, as laws of the whole bench: document 01 with the requests that have landed (T-01, T-02, T-04, T-05, T-06, T-07). The laws of T-14,
+-- which changed no answer, stand beside this file, in TakenApart.antt; what stands at each place of T-05, in WhereWrong.antt; T-07's
+-- targets beside one another, in OldCards.antt. A target goes with each reading and execution (T-07): the laws hold for each, and for the records that it allows.
 -- `read`, `write` and `execute` of src/lib.rt promise `Answers`, `writing` and `run` for every input; these laws say what that means, and
 -- proofs/Contracts.antt says the records at the end of this file of the functions' own contracts, and that these ask nothing. What a definition says, its own file says
 -- after the documents (docs/RULES.md leads the way). Assumes nothing.
@@ -25,7 +26,9 @@ use Rattle.record.specs.declared.Comparison.{Comparison}
 use Rattle.record.specs.declared.Destination.the-variants.{One, Pair, First, Second}
 use Rattle.record.specs.declared.Instruction.the-variants.{VsetLanes, ArithmeticLanes, Setp}
 use Rattle.record.specs.declared.Record.{Record}
+use Rattle.record.specs.declared.Target.{Target}
 use Rattle.rules.specs.Grammar.{LineTree, Shaped}
+use Rattle.rules.specs.Targets.{allows, Allowed}
 use Rattle.rules.specs.StandardLine.{standard}
 use Rattle.rules.specs.Reading.{Relates, lineLimit, Applies, readingOrder, FirstOf, Placed, placeless, Answer, read, refused, refused-at, Answers}
 use Rattle.signs.specs.Lists.{Listed}
@@ -49,118 +52,123 @@ use Rattle.read.specs.Promises.{Refusal}
 -- ==== 1. Every line, every decoded record and every set of register files gets an answer.
 
 -- `writing` and `run` are functions of all records, buffers and files; for a line there is an answer, and one
-pub every-line-answered : (l : List ℕ) → (a : Answer) × Answers l a
-every-line-answered l = (readOf l, answering.answers l)
+pub every-line-answered : (target : Target) (l : List ℕ) → (a : Answer) × Answers target l a
+every-line-answered target l = (readOf target l, answering.answers target l)
 
-pub one-answer : (l : List ℕ) (a b : Answer) → Answers l a → Answers l b → a ≡ b
-one-answer l a b x y = answering.answers-unique l a b x y
+pub one-answer : (target : Target) (l : List ℕ) (a b : Answer) → Answers target l a → Answers target l b → a ≡ b
+one-answer target l a b x y = answering.answers-unique target l a b x y
 
 -- Each entry point tests its own input: none has a `requires`, so what a caller would have had to test is a refusal.
 
--- a line: 1 to 7 are under demand 3. A record and a buffer: 8, 9
+-- a line: 1 to 7 and 12 are under demand 3. A record and a buffer: 8, 9
 pub write-8 : (x : Record) (b : List ℕ) → isLegal x ≡ false → writing x b ≡ paper.outcome (paper.refused 8) b
 write-8 x b e = outcomes.write-8 x b e
 
 pub write-9 : (x : Record) (b : List ℕ) → Legal x → length b < length (standard x) → writing x b ≡ paper.outcome (paper.refused 9) b
 write-9 x b e h = outcomes.write-9 x b e h
 
--- a record and files: 8, 10, 11
-pub execute-8 : (x : Record) (f : Files) → isLegal x ≡ false → run x f ≡ executing.outcome (executing.refused 8) f
-execute-8 x f e = outcomes.execute-8 x f e
+-- a record and files: 8, 12 (T-07), 10, 11
+pub execute-8 : (target : Target) (x : Record) (f : Files) → isLegal x ≡ false → run target x f ≡ executing.outcome (executing.refused 8) f
+execute-8 target x f e = outcomes.execute-8 target x f e
 
-pub execute-10 : (x : Record) (f : Files) → Legal x → sizesFit f ≡ false → run x f ≡ executing.outcome (executing.refused 10) f
-execute-10 x f e s = outcomes.execute-10 x f e s
+pub execute-12 : (target : Target) (x : Record) (f : Files) → Legal x → allows target x ≡ false → run target x f ≡ executing.outcome (executing.refused 12) f
+execute-12 target x f e a = outcomes.execute-12 target x f e a
 
-pub execute-11 : (x : Record) (f : Files) → Legal x → sizesFit f ≡ true → predsFit (f .preds) ≡ false → run x f ≡ executing.outcome (executing.refused 11) f
-execute-11 x f e s b = outcomes.execute-11 x f e s b
+pub execute-10 : (target : Target) (x : Record) (f : Files) → Allowed target x → sizesFit f ≡ false → run target x f ≡ executing.outcome (executing.refused 10) f
+execute-10 target x f e s = outcomes.execute-10 target x f e s
+
+pub execute-11 : (target : Target) (x : Record) (f : Files) → Allowed target x → sizesFit f ≡ true → predsFit (f .preds) ≡ false → run target x f ≡ executing.outcome (executing.refused 11) f
+execute-11 target x f e s b = outcomes.execute-11 target x f e s b
 
 -- A refusal carries document 01's number and leaves registers, predicates and the output buffer exactly as they were lent.
 
 -- (a line is lent to be read only: by its type it stays as it is)
-pub read-refused : (l : List ℕ) (n : ℕ) → Answers l (refused n) → Listed n readingOrder × Listed n placeless
-read-refused l n a = (promises.refused-listed l n a, promises.refused-first l n a .1)
+pub read-refused : (target : Target) (l : List ℕ) (n : ℕ) → Answers target l (refused n) → Listed n readingOrder × Listed n placeless
+read-refused target l n a = (promises.refused-listed target l n a, promises.refused-first target l n a .1)
 
--- T-05: refusals 2 to 7, all but 1, carry a byte place, which is one of the line or its length
-pub read-refused-at : (l : List ℕ) (n q : ℕ) → Answers l (refused-at n q) → Listed n readingOrder × (Listed n placeless → ⊥) × (q ≤ length l)
-read-refused-at l n q a =
-    (promises.refused-at-listed l n q a, λ i. answering.placeless-unplaced l n q i (promises.refused-at-first l n q a .1), promises.refused-at-within l n q a .0)
+-- T-05: refusals 2 to 7, all but 1 (T-07: and 12), carry a byte place, which is one of the line or its length
+pub read-refused-at : (target : Target) (l : List ℕ) (n q : ℕ) → Answers target l (refused-at n q) → Listed n readingOrder × (Listed n placeless → ⊥) × (q ≤ length l)
+read-refused-at target l n q a =
+    (promises.refused-at-listed target l n q a, λ i. answering.placeless-unplaced l n q i (promises.refused-at-first target l n q a .1), promises.refused-at-within target l n q a .0)
 
 pub write-refused : (x : Record) (b : List ℕ) (n : ℕ) → writing x b .answer ≡ paper.refused n → Listed n (8 ∷ 9 ∷ []) × (writing x b .buffer ≡ b)
 write-refused x b n e = outcomes.write-refused x b n e
 
-pub execute-refused : (x : Record) (f : Files) (n : ℕ) → run x f .answer ≡ executing.refused n → Listed n (8 ∷ 10 ∷ 11 ∷ []) × (run x f .files ≡ f)
-execute-refused x f n e = outcomes.execute-refused x f n e
+pub execute-refused : (target : Target) (x : Record) (f : Files) (n : ℕ) → run target x f .answer ≡ executing.refused n → Listed n (8 ∷ 12 ∷ 10 ∷ 11 ∷ []) × (run target x f .files ≡ f)
+execute-refused target x f n e = outcomes.execute-refused target x f n e
 
 -- ==== 2. A legal record, on files that document 01 admits, does to the registers what the PTX steps condensed there say,
+
+-- (T-07: for each target and the records it allows)
 
 -- (files that are neither 10 nor 11 are admitted)
 pub admits : (f : Files) → sizesFit f ≡ true → predsFit (f .preds) ≡ true → Admitted f
 admits f s b = outcomes.admits f s b
 
 -- (it is executed where its guard holds, and else skipped)
-pub executes : (x : Record) (f : Files) → Legal x → Admitted f → guardHolds (f .preds) (x .guard) ≡ true → run x f ≡ executing.outcome done (after (x .instruction) f)
-executes x f e a g = outcomes.executes x f e a g
+pub executes : (target : Target) (x : Record) (f : Files) → Allowed target x → Admitted f → guardHolds (f .preds) (x .guard) ≡ true → run target x f ≡ executing.outcome done (after target (x .instruction) f)
+executes target x f e a g = outcomes.executes target x f e a g
 
-pub skips : (x : Record) (f : Files) → Legal x → Admitted f → guardHolds (f .preds) (x .guard) ≡ false → run x f ≡ executing.outcome skipped f
-skips x f e a g = outcomes.skips x f e a g
+pub skips : (target : Target) (x : Record) (f : Files) → Allowed target x → Admitted f → guardHolds (f .preds) (x .guard) ≡ false → run target x f ≡ executing.outcome skipped f
+skips target x f e a g = outcomes.skips target x f e a g
 
-module _ (x : Record) (f : Files) (legal : Legal x) (admitted : Admitted f) (guard : guardHolds (f .preds) (x .guard) ≡ true) where
+module _ (target : Target) (x : Record) (f : Files) (allowed : Allowed target x) (admitted : Admitted f) (guard : guardHolds (f .preds) (x .guard) ≡ true) where
   -- each destination holds its value afterwards: `writes` says it of each instruction, by the definitions of Execution.antt
-  pub destinations-hold : (w : Write) → Listed w (writes (x .instruction) f) → at (run x f .files) (w .place) ≡ w .value
-  destinations-hold w e = runs.holds-written x f legal admitted guard w e
+  pub destinations-hold : (w : Write) → Listed w (writes target (x .instruction) f) → at (run target x f .files) (w .place) ≡ w .value
+  destinations-hold w e = runs.holds-written target x f allowed admitted guard w e
 
   -- vset2 and vset4: masked lanes, those the mask names, get 1 or 0; other lanes keep c's part. With `add`, d is c plus the number of masked
   -- lanes that hold, modulo 2^32
   module _ (cmp : Cmp6) (l : Lanes) (is : x .instruction ≡ VsetLanes cmp l) where
     pub masked-lane : l .add ≡ false → (i : ℕ) → i < lanes (l .width) → maskAt (l .mask) i ≡ true
-        → partAt (laneSize (l .width)) (at (run x f .files) (r (l .d))) i ≡ bit (laneHolds cmp l (at f (r (l .a))) (at f (r (l .b))) i)
-    masked-lane plain i h m = runs.masked-lane x f legal admitted guard cmp l is plain i h m
+        → partAt (laneSize (l .width)) (at (run target x f .files) (r (l .d))) i ≡ bit (laneHolds cmp l (at f (r (l .a))) (at f (r (l .b))) i)
+    masked-lane plain i h m = runs.masked-lane target x f allowed admitted guard cmp l is plain i h m
 
     pub unmasked-lane : l .add ≡ false → (i : ℕ) → i < lanes (l .width) → maskAt (l .mask) i ≡ false
-        → partAt (laneSize (l .width)) (at (run x f .files) (r (l .d))) i ≡ partAt (laneSize (l .width)) (at f (r (l .c))) i
-    unmasked-lane plain i h m = runs.unmasked-lane x f legal admitted guard cmp l is plain i h m
+        → partAt (laneSize (l .width)) (at (run target x f .files) (r (l .d))) i ≡ partAt (laneSize (l .width)) (at f (r (l .c))) i
+    unmasked-lane plain i h m = runs.unmasked-lane target x f allowed admitted guard cmp l is plain i h m
 
     pub add-counted : l .add ≡ true
-        → at (run x f .files) (r (l .d))
+        → at (run target x f .files) (r (l .d))
         ≡ (at f (r (l .c)) + count (lanes (l .width)) (λ i. maskAt (l .mask) i && laneHolds cmp l (at f (r (l .a))) (at f (r (l .b))) i)) % wordSize
-    add-counted e = runs.add-counted x f legal admitted guard cmp l is e
+    add-counted e = runs.add-counted target x f allowed admitted guard cmp l is e
 
   -- T-01: a merge keeps the low bits of the lane, and unmasked lanes keep c's parts. `add` adds the exact masked lane results to c, modulo 2^32
   module _ (op : LaneArith) (dtype : VideoType) (sat : Bool) (l : Lanes) (is : x .instruction ≡ ArithmeticLanes op dtype sat l) where
     pub masked-result : l .add ≡ false → (i : ℕ) → i < lanes (l .width) → maskAt (l .mask) i ≡ true
-        → partAt (laneSize (l .width)) (at (run x f .files) (r (l .d))) i
+        → partAt (laneSize (l .width)) (at (run target x f .files) (r (l .d))) i
         ≡ lowOf (laneSize (l .width)) (laneResult op dtype sat l (at f (r (l .a))) (at f (r (l .b))) i)
-    masked-result plain i h m = runs.masked-result x f legal admitted guard op dtype sat l is plain i h m
+    masked-result plain i h m = runs.masked-result target x f allowed admitted guard op dtype sat l is plain i h m
 
     pub unmasked-result : l .add ≡ false → (i : ℕ) → i < lanes (l .width) → maskAt (l .mask) i ≡ false
-        → partAt (laneSize (l .width)) (at (run x f .files) (r (l .d))) i ≡ partAt (laneSize (l .width)) (at f (r (l .c))) i
-    unmasked-result plain i h m = runs.unmasked-result x f legal admitted guard op dtype sat l is plain i h m
+        → partAt (laneSize (l .width)) (at (run target x f .files) (r (l .d))) i ≡ partAt (laneSize (l .width)) (at f (r (l .c))) i
+    unmasked-result plain i h m = runs.unmasked-result target x f allowed admitted guard op dtype sat l is plain i h m
 
     pub add-summed : l .add ≡ true
-        → at (run x f .files) (r (l .d))
+        → at (run target x f .files) (r (l .d))
         ≡ lowOf wordSize
         (pos (at f (r (l .c))) +ℤ sumZ (lanes (l .width)) (λ i. cond (maskAt (l .mask) i) (laneResult op dtype sat l (at f (r (l .a))) (at f (r (l .b))) i) (pos 0)))
-    add-summed e = runs.add-summed x f legal admitted guard op dtype sat l is e
+    add-summed e = runs.add-summed target x f allowed admitted guard op dtype sat l is e
 
   -- setp writes BoolOp(t, c) to the first place, BoolOp(not t, c) to the second, of the predicates before either is written
   module _ (a b : Pred) (s : Comparison) (is : x .instruction ≡ Setp (Pair a b) s) where
-    pub first-place : at (run x f .files) (p a) ≡ bit (combinedOf (f .preds) (s .combination) (testOf f s))
-    first-place = runs.first-place x f legal admitted guard a b s is
+    pub first-place : at (run target x f .files) (p a) ≡ bit (combinedOf (f .preds) (s .combination) (testOf target f s))
+    first-place = runs.first-place target x f allowed admitted guard a b s is
 
-    pub second-place : at (run x f .files) (p b) ≡ bit (combinedOf (f .preds) (s .combination) (not (testOf f s)))
-    second-place = runs.second-place x f legal admitted guard a b s is
+    pub second-place : at (run target x f .files) (p b) ≡ bit (combinedOf (f .preds) (s .combination) (not (testOf target f s)))
+    second-place = runs.second-place target x f allowed admitted guard a b s is
 
   -- (one predicate gets what the first place of a pair gets; `_` drops one)
   module _ (a : Pred) (s : Comparison) where
-    pub one-alone : x .instruction ≡ Setp (One a) s → at (run x f .files) (p a) ≡ bit (combinedOf (f .preds) (s .combination) (testOf f s))
-    one-alone is = runs.one-holds x f legal admitted guard a s is
+    pub one-alone : x .instruction ≡ Setp (One a) s → at (run target x f .files) (p a) ≡ bit (combinedOf (f .preds) (s .combination) (testOf target f s))
+    one-alone is = runs.one-holds target x f allowed admitted guard a s is
 
-    pub first-alone : x .instruction ≡ Setp (First a) s → at (run x f .files) (p a) ≡ bit (combinedOf (f .preds) (s .combination) (testOf f s))
-    first-alone is = runs.first-holds x f legal admitted guard a s is
+    pub first-alone : x .instruction ≡ Setp (First a) s → at (run target x f .files) (p a) ≡ bit (combinedOf (f .preds) (s .combination) (testOf target f s))
+    first-alone is = runs.first-holds target x f allowed admitted guard a s is
 
     pub second-alone : x .instruction ≡ Setp (Second a) s
-        → at (run x f .files) (p a) ≡ bit (combinedOf (f .preds) (s .combination) (not (testOf f s)))
-    second-alone is = runs.second-holds x f legal admitted guard a s is
+        → at (run target x f .files) (p a) ≡ bit (combinedOf (f .preds) (s .combination) (not (testOf target f s)))
+    second-alone is = runs.second-holds target x f allowed admitted guard a s is
 
 -- a legal record names only places in their files: its guard's, its destinations, its sources
 pub names-inside : (x : Record) → Legal x → (q : Place) → Listed q (named x) → Inside q
@@ -169,17 +177,17 @@ names-inside x h q e = places.legal-inside x h q e
 -- and nothing else in them moves.
 
 -- what is written are the destinations, which the record alone names
-pub writes-destinations : (x : Record) (f : Files) → placesOf (writes (x .instruction) f) ≡ destinations (x .instruction)
-writes-destinations x f = runs.writes-destinations (x .instruction) f
+pub writes-destinations : (target : Target) (x : Record) (f : Files) → placesOf (writes target (x .instruction) f) ≡ destinations (x .instruction)
+writes-destinations target x f = runs.writes-destinations target (x .instruction) f
 
-pub others-stay : (x : Record) (f : Files) (q : Place) → (Listed q (destinations (x .instruction)) → ⊥) → at (run x f .files) q ≡ at f q
-others-stay x f q h = runs.others-stay x f q h
+pub others-stay : (target : Target) (x : Record) (f : Files) (q : Place) → (Listed q (destinations (x .instruction)) → ⊥) → at (run target x f .files) q ≡ at f q
+others-stay target x f q h = runs.others-stay target x f q h
 
-pub lengths-stay : (x : Record) (f : Files) → SameLengths f (run x f .files)
-lengths-stay x f = runs.lengths-stay x f
+pub lengths-stay : (target : Target) (x : Record) (f : Files) → SameLengths f (run target x f .files)
+lengths-stay target x f = runs.lengths-stay target x f
 
-pub all-stays-unless-done : (x : Record) (f : Files) → (run x f .answer ≡ done → ⊥) → run x f .files ≡ f
-all-stays-unless-done x f h = outcomes.unless-done-unmoved x f h
+pub all-stays-unless-done : (target : Target) (x : Record) (f : Files) → (run target x f .answer ≡ done → ⊥) → run target x f .files ≡ f
+all-stays-unless-done target x f h = outcomes.unless-done-unmoved target x f h
 
 -- Every legal record is written as its one standard line, given a buffer with room for it, (and no byte behind it changes)
 pub writes-standard : (x : Record) (b : List ℕ) → Legal x → length (standard x) ≤ length b
@@ -189,17 +197,18 @@ writes-standard x b e h = outcomes.writes-standard x b e h
 pub room-of-a-line-is-enough : (x : Record) → Legal x → length (standard x) ≤ lineLimit
 room-of-a-line-is-enough x h = standard-fits x h
 
--- and reading that line gives the record again.
-pub reads-back : (x : Record) → Legal x → Answers (standard x) (read x)
-reads-back x h = promises.standard-reads x h
+-- and reading that line gives the record again (T-07: at each target that allows it).
+pub reads-back : (target : Target) (x : Record) → Allowed target x → Answers target (standard x) (read x)
+reads-back target x h = promises.standard-reads target x h
 
--- ==== 3. A line is accepted exactly when the grammar of document 01, set down apart from the reader, relates it to a legal record.
+-- ==== 3. A line is accepted exactly when the grammar of document 01, set down apart from the reader, relates it to a legal record (T-07:
+-- that the target allows).
 
-pub accepted-related : (l : List ℕ) (x : Record) → Answers l (read x) → Relates l x × Legal x
-accepted-related l x a = promises.accepted-related l x a
+pub accepted-related : (target : Target) (l : List ℕ) (x : Record) → Answers target l (read x) → Relates l x × Allowed target x
+accepted-related target l x a = promises.accepted-related target l x a
 
-pub related-accepted : (l : List ℕ) (x : Record) → Relates l x → Legal x → Answers l (read x)
-related-accepted l x q h = promises.related-accepted l x q h
+pub related-accepted : (target : Target) (l : List ℕ) (x : Record) → Relates l x → Allowed target x → Answers target l (read x)
+related-accepted target l x q h = promises.related-accepted target l x q h
 
 -- (and no line with the shape has a line feed)
 pub no-line-feed : (l : List ℕ) (t : LineTree) → Shaped l t → Listed lineFeed l → ⊥
@@ -214,8 +223,8 @@ pub has-line : (x : Record) → Legal x → (l : List ℕ) × Relates l x
 has-line x h = promises.has-line x h
 
 -- two accepted lines have equal records exactly when their standard lines are equal.
-pub equal-standard-lines : (l k : List ℕ) (x y : Record) → Answers l (read x) → Answers k (read y) → standard x ≡ standard y → x ≡ y
-equal-standard-lines l k x y a b e = promises.same-line l k x y a b e
+pub equal-standard-lines : (target other : Target) (l k : List ℕ) (x y : Record) → Answers target l (read x) → Answers other k (read y) → standard x ≡ standard y → x ≡ y
+equal-standard-lines target other l k x y a b e = promises.same-line target other l k x y a b e
 
 pub equal-records : (x y : Record) → x ≡ y → standard x ≡ standard y
 equal-records x y e = ap standard e
@@ -223,21 +232,21 @@ equal-records x y e = ap standard e
 -- A line that is not accepted gets the first refusal, in document 01's order, that applies to it.
 
 -- n applies, and none before it in the order does. T-05: demand 3 covers the place too
-pub refused-first : (l : List ℕ) (n : ℕ) → Answers l (refused n) → FirstOf l n readingOrder × Listed n placeless
-refused-first l n a = promises.refused-first l n a
+pub refused-first : (target : Target) (l : List ℕ) (n : ℕ) → Answers target l (refused n) → FirstOf target l n readingOrder × Listed n placeless
+refused-first target l n a = promises.refused-first target l n a
 
-pub refused-at-first : (l : List ℕ) (n q : ℕ) → Answers l (refused-at n q) → FirstOf l n readingOrder × Placed l n q
-refused-at-first l n q a = promises.refused-at-first l n q a
+pub refused-at-first : (target : Target) (l : List ℕ) (n q : ℕ) → Answers target l (refused-at n q) → FirstOf target l n readingOrder × Placed l n q
+refused-at-first target l n q a = promises.refused-at-first target l n q a
 
-pub first-refused : (l : List ℕ) (n : ℕ) → FirstOf l n readingOrder → Listed n placeless → Answers l (refused n)
-first-refused l n f i = promises.first-refused l n f i
+pub first-refused : (target : Target) (l : List ℕ) (n : ℕ) → FirstOf target l n readingOrder → Listed n placeless → Answers target l (refused n)
+first-refused target l n f i = promises.first-refused target l n f i
 
-pub first-refused-at : (l : List ℕ) (n q : ℕ) → FirstOf l n readingOrder → Placed l n q → Answers l (refused-at n q)
-first-refused-at l n q f i = promises.first-refused-at l n q f i
+pub first-refused-at : (target : Target) (l : List ℕ) (n q : ℕ) → FirstOf target l n readingOrder → Placed l n q → Answers target l (refused-at n q)
+first-refused-at target l n q f i = promises.first-refused-at target l n q f i
 
--- each refusal but 1 has a place, and one; 1 has none
-pub some-place : (l : List ℕ) (n : ℕ) → FirstOf l n readingOrder → (Listed n placeless → ⊥) → (q : ℕ) × Placed l n q
-some-place l n f k = answering.placed-some l n f k
+-- each refusal but 1 and 12 has a place, and one; these have none
+pub some-place : (target : Target) (l : List ℕ) (n : ℕ) → FirstOf target l n readingOrder → (Listed n placeless → ⊥) → (q : ℕ) × Placed l n q
+some-place target l n f k = answering.placed-some target l n f k
 
 pub one-place : (l : List ℕ) → length l ≤ lineLimit → (n q k : ℕ) → Placed l n q → Placed l n k → q ≡ k
 one-place l h n q k x y = answering.placed-one l h n q k x y
@@ -246,28 +255,28 @@ pub no-place : (l : List ℕ) (n q : ℕ) → Listed n placeless → Placed l n 
 no-place l n q i x = answering.placeless-unplaced l n q i x
 
 -- an accepted line has no refusal that applies, and a line with none that applies is accepted
-pub accepted-none-applies : (l : List ℕ) (x : Record) → Answers l (read x) → (n : ℕ) → Applies l n → ⊥
-accepted-none-applies l x a n e = promises.accepted-none-applies l x a n e
+pub accepted-none-applies : (target : Target) (l : List ℕ) (x : Record) → Answers target l (read x) → (n : ℕ) → Applies target l n → ⊥
+accepted-none-applies target l x a n e = promises.accepted-none-applies target l x a n e
 
-pub none-applies-accepted : (l : List ℕ) → ((n : ℕ) → Applies l n → ⊥) → (x : Record) × Answers l (read x)
-none-applies-accepted l h = answering.none-accepted l h
+pub none-applies-accepted : (target : Target) (l : List ℕ) → ((n : ℕ) → Applies target l n → ⊥) → (x : Record) × Answers target l (read x)
+none-applies-accepted target l h = answering.none-accepted target l h
 
-pub not-accepted-refused : (l : List ℕ) → ((x : Record) → Relates l x → Legal x → ⊥) → (a : Answer) × Answers l a × (n : ℕ) × Refusal a n
-not-accepted-refused l h = promises.unrelated-refused l h
+pub not-accepted-refused : (target : Target) (l : List ℕ) → ((x : Record) → Relates l x → Allowed target x → ⊥) → (a : Answer) × Answers target l a × (n : ℕ) × Refusal a n
+not-accepted-refused target l h = promises.unrelated-refused target l h
 
-pub refused-not-accepted : (l : List ℕ) (a : Answer) (n : ℕ) (x : Record) → Answers l a → Refusal a n → Relates l x → Legal x → ⊥
-refused-not-accepted l a n x h i q k = promises.refused-unrelated l a n x h i q k
+pub refused-not-accepted : (target : Target) (l : List ℕ) (a : Answer) (n : ℕ) (x : Record) → Answers target l a → Refusal a n → Relates l x → Allowed target x → ⊥
+refused-not-accepted target l a n x h i q k = promises.refused-unrelated target l a n x h i q k
 
 -- ==== the demands of one call: what is asked for, the answer a, and what the lent memory holds at exit
 
 -- a line is read
-pub record ReadAsDemanded (l : List ℕ) (a : Answer) : Type 0 where
-  pub accepted : (x : Record) → a ≡ read x → Relates l x × Legal x
-  pub related : (x : Record) → Relates l x → Legal x → a ≡ read x
-  pub refused-first : (n : ℕ) → a ≡ refused n → FirstOf l n readingOrder × Listed n placeless
-  pub first-refused : (n : ℕ) → FirstOf l n readingOrder → Listed n placeless → a ≡ refused n
-  pub refused-at-first : (n q : ℕ) → a ≡ refused-at n q → FirstOf l n readingOrder × Placed l n q
-  pub first-refused-at : (n q : ℕ) → FirstOf l n readingOrder → Placed l n q → a ≡ refused-at n q
+pub record ReadAsDemanded (target : Target) (l : List ℕ) (a : Answer) : Type 0 where
+  pub accepted : (x : Record) → a ≡ read x → Relates l x × Allowed target x
+  pub related : (x : Record) → Relates l x → Allowed target x → a ≡ read x
+  pub refused-first : (n : ℕ) → a ≡ refused n → FirstOf target l n readingOrder × Listed n placeless
+  pub first-refused : (n : ℕ) → FirstOf target l n readingOrder → Listed n placeless → a ≡ refused n
+  pub refused-at-first : (n q : ℕ) → a ≡ refused-at n q → FirstOf target l n readingOrder × Placed l n q
+  pub first-refused-at : (n q : ℕ) → FirstOf target l n readingOrder → Placed l n q → a ≡ refused-at n q
 
 -- a record is written into a buffer b, which holds c at exit
 pub record WrittenAsDemanded (x : Record) (b : List ℕ) (a : paper.Answer) (c : List ℕ) : Type 0 where
@@ -277,27 +286,28 @@ pub record WrittenAsDemanded (x : Record) (b : List ℕ) (a : paper.Answer) (c :
   pub standard-line : Legal x → length (standard x) ≤ length b → (a ≡ written (length (standard x))) × (c ≡ standard x ++ drop (length (standard x)) b)
 
 -- a record is executed on files f, which are g at exit
-pub record ExecutedAsDemanded (x : Record) (f : Files) (a : executing.Answer) (g : Files) : Type 0 where
-  pub refused-as-lent : (n : ℕ) → a ≡ executing.refused n → Listed n (8 ∷ 10 ∷ 11 ∷ []) × (g ≡ f)
+pub record ExecutedAsDemanded (target : Target) (x : Record) (f : Files) (a : executing.Answer) (g : Files) : Type 0 where
+  pub refused-as-lent : (n : ℕ) → a ≡ executing.refused n → Listed n (8 ∷ 12 ∷ 10 ∷ 11 ∷ []) × (g ≡ f)
   pub not-legal : isLegal x ≡ false → a ≡ executing.refused 8
-  pub wrong-sizes : Legal x → sizesFit f ≡ false → a ≡ executing.refused 10
-  pub wrong-preds : Legal x → sizesFit f ≡ true → predsFit (f .preds) ≡ false → a ≡ executing.refused 11
-  pub done-where-legal : Legal x → Admitted f → guardHolds (f .preds) (x .guard) ≡ true → a ≡ done
-  pub destinations-hold : Legal x → Admitted f → guardHolds (f .preds) (x .guard) ≡ true → (w : Write) → Listed w (writes (x .instruction) f) → at g (w .place) ≡ w .value
-  pub skipped-where-false : Legal x → Admitted f → guardHolds (f .preds) (x .guard) ≡ false → (a ≡ skipped) × (g ≡ f)
+  pub too-old : Legal x → allows target x ≡ false → a ≡ executing.refused 12
+  pub wrong-sizes : Allowed target x → sizesFit f ≡ false → a ≡ executing.refused 10
+  pub wrong-preds : Allowed target x → sizesFit f ≡ true → predsFit (f .preds) ≡ false → a ≡ executing.refused 11
+  pub done-where-allowed : Allowed target x → Admitted f → guardHolds (f .preds) (x .guard) ≡ true → a ≡ done
+  pub destinations-hold : Allowed target x → Admitted f → guardHolds (f .preds) (x .guard) ≡ true → (w : Write) → Listed w (writes target (x .instruction) f) → at g (w .place) ≡ w .value
+  pub skipped-where-false : Allowed target x → Admitted f → guardHolds (f .preds) (x .guard) ≡ false → (a ≡ skipped) × (g ≡ f)
   pub others-stay : (q : Place) → (Listed q (destinations (x .instruction)) → ⊥) → at g q ≡ at f q
   pub lengths-stay : SameLengths f g
 
 -- the equations that the contracts promise give them
-pub read-as-demanded : (l : List ℕ) (a : Answer) → Answers l a → ReadAsDemanded l a
-read-as-demanded l a h =
+pub read-as-demanded : (target : Target) (l : List ℕ) (a : Answer) → Answers target l a → ReadAsDemanded target l a
+read-as-demanded target l a h =
     record {
-      accepted = λ x e. promises.accepted-related l x (rw (← e) h);
-      related = λ x r e. answering.answers-unique l a (read x) h (promises.related-accepted l x r e);
-      refused-first = λ n e. promises.refused-first l n (rw (← e) h);
-      first-refused = λ n f i. answering.answers-unique l a (refused n) h (promises.first-refused l n f i);
-      refused-at-first = λ n q e. promises.refused-at-first l n q (rw (← e) h);
-      first-refused-at = λ n q f i. answering.answers-unique l a (refused-at n q) h (promises.first-refused-at l n q f i);
+      accepted = λ x e. promises.accepted-related target l x (rw (← e) h);
+      related = λ x r e. answering.answers-unique target l a (read x) h (promises.related-accepted target l x r e);
+      refused-first = λ n e. promises.refused-first target l n (rw (← e) h);
+      first-refused = λ n f i. answering.answers-unique target l a (refused n) h (promises.first-refused target l n f i);
+      refused-at-first = λ n q e. promises.refused-at-first target l n q (rw (← e) h);
+      first-refused-at = λ n q f i. answering.answers-unique target l a (refused-at n q) h (promises.first-refused-at target l n q f i);
     }
 
 pub written-as-demanded : (x : Record) (b : List ℕ) (a : paper.Answer) (c : List ℕ) → paper.outcome a c ≡ writing x b → WrittenAsDemanded x b a c
@@ -311,26 +321,27 @@ written-as-demanded x b a c h =
       standard-line = λ e room. let k = outcomes.writes-standard x b e room in (said ∙ ap (λ (o : paper.Outcome). o .answer) k, left ∙ ap (λ (o : paper.Outcome). o .buffer) k);
     }
 
-pub executed-as-demanded : (x : Record) (f : Files) (a : executing.Answer) (g : Files) → executing.outcome a g ≡ run x f → ExecutedAsDemanded x f a g
-executed-as-demanded x f a g h =
-    let said : a ≡ run x f .answer = ap (λ (o : executing.Outcome). o .answer) h in
-    let left : g ≡ run x f .files = ap (λ (o : executing.Outcome). o .files) h in
+pub executed-as-demanded : (target : Target) (x : Record) (f : Files) (a : executing.Answer) (g : Files) → executing.outcome a g ≡ run target x f → ExecutedAsDemanded target x f a g
+executed-as-demanded target x f a g h =
+    let said : a ≡ run target x f .answer = ap (λ (o : executing.Outcome). o .answer) h in
+    let left : g ≡ run target x f .files = ap (λ (o : executing.Outcome). o .files) h in
     record {
-      refused-as-lent = λ n e. let k = outcomes.execute-refused x f n (sym said ∙ e) in (k .0, left ∙ k .1);
-      not-legal = λ e. said ∙ ap (λ (o : executing.Outcome). o .answer) (outcomes.execute-8 x f e);
-      wrong-sizes = λ e s. said ∙ ap (λ (o : executing.Outcome). o .answer) (outcomes.execute-10 x f e s);
-      wrong-preds = λ e s b. said ∙ ap (λ (o : executing.Outcome). o .answer) (outcomes.execute-11 x f e s b);
-      done-where-legal = λ e i t. said ∙ ap (λ (o : executing.Outcome). o .answer) (outcomes.executes x f e i t);
-      destinations-hold = λ e i t w k. ap (λ (u : Files). at u (w .place)) left ∙ runs.holds-written x f e i t w k;
-      skipped-where-false = λ e i t. let k = outcomes.skips x f e i t in (said ∙ ap (λ (o : executing.Outcome). o .answer) k, left ∙ ap (λ (o : executing.Outcome). o .files) k);
-      others-stay = λ q k. ap (λ (u : Files). at u q) left ∙ runs.others-stay x f q k;
-      lengths-stay = rw left (runs.lengths-stay x f);
+      refused-as-lent = λ n e. let k = outcomes.execute-refused target x f n (sym said ∙ e) in (k .0, left ∙ k .1);
+      not-legal = λ e. said ∙ ap (λ (o : executing.Outcome). o .answer) (outcomes.execute-8 target x f e);
+      too-old = λ e o. said ∙ ap (λ (o : executing.Outcome). o .answer) (outcomes.execute-12 target x f e o);
+      wrong-sizes = λ e s. said ∙ ap (λ (o : executing.Outcome). o .answer) (outcomes.execute-10 target x f e s);
+      wrong-preds = λ e s b. said ∙ ap (λ (o : executing.Outcome). o .answer) (outcomes.execute-11 target x f e s b);
+      done-where-allowed = λ e i t. said ∙ ap (λ (o : executing.Outcome). o .answer) (outcomes.executes target x f e i t);
+      destinations-hold = λ e i t w k. ap (λ (u : Files). at u (w .place)) left ∙ runs.holds-written target x f e i t w k;
+      skipped-where-false = λ e i t. let k = outcomes.skips target x f e i t in (said ∙ ap (λ (o : executing.Outcome). o .answer) k, left ∙ ap (λ (o : executing.Outcome). o .files) k);
+      others-stay = λ q k. ap (λ (u : Files). at u q) left ∙ runs.others-stay target x f q k;
+      lengths-stay = rw left (runs.lengths-stay target x f);
     }
 
--- reading that line gives the record again: the first n bytes, where the writer answered n
-pub written-then-read : (x : Record) (b c : List ℕ) (a : paper.Answer) (n : ℕ) (y : Answer) → WrittenAsDemanded x b a c → a ≡ written n
-    → ReadAsDemanded (take n c) y → y ≡ read x
-written-then-read x b c a n y w h r = go (isLegal x) refl (ltb (length b) (length (standard x))) refl
+-- reading that line gives the record again, at a target that allows it: the first n bytes, where the writer answered n
+pub written-then-read : (target : Target) (x : Record) (b c : List ℕ) (a : paper.Answer) (n : ℕ) (y : Answer) → WrittenAsDemanded x b a c → a ≡ written n → allows target x ≡ true
+    → ReadAsDemanded target (take n c) y → y ≡ read x
+written-then-read target x b c a n y w h allowed r = go (isLegal x) refl (ltb (length b) (length (standard x))) refl
   where
     other : (k : ℕ) → a ≡ paper.refused k → y ≡ read x
     other k e =
@@ -346,4 +357,5 @@ written-then-read x b c a n y w h r = go (isLegal x) refl (ltb (length b) (lengt
         let z : written n ≡ written (length (standard x)) = sym h ∙ k .0 in
         let m : n ≡ length (standard x) = cc in
         let line : take n c ≡ standard x = rw (m, k .1) (take-at (standard x) _ _ refl) in
-        r .related x (subst (λ (l : List ℕ). Relates l x) (sym line) (promises.accepted-related (standard x) x (promises.standard-reads x e) .0)) e
+        let k : Allowed target x = record { legal = e; allowed = allowed } in
+        r .related x (subst (λ (l : List ℕ). Relates l x) (sym line) (promises.accepted-related target (standard x) x (promises.standard-reads target x k) .0)) k

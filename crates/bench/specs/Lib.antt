@@ -1,3 +1,4 @@
 pub mod Demands
 pub mod TakenApart
 pub mod WhereWrong
+pub mod OldCards

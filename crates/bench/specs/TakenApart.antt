@@ -7,7 +7,7 @@ use mathlib.Core.Bool.{Bool, true, false, _&&_}
 use mathlib.Core.List.{map}
 use Rattle.signs.specs.Lists.{Listed}
 use Rattle.record.specs.Registers.{Files, r, at, Inside}
-use Rattle.record.specs.Refusals.{Legal, formInRange}
+use Rattle.record.specs.Refusals.{formInRange}
 use Rattle.record.specs.declared.Word.{Word}
 use Rattle.record.specs.declared.Cmp6.{Cmp6}
 use Rattle.record.specs.declared.Arith.{Arith}
@@ -19,8 +19,10 @@ use Rattle.record.specs.declared.Form.{Form}
 use Rattle.record.specs.declared.Form.the-variants.{Plain, Merge}
 use Rattle.record.specs.declared.Instruction.the-variants.{VsetLanes, ArithmeticLanes}
 use Rattle.record.specs.declared.Record.{Record}
+use Rattle.record.specs.declared.Target.{Target}
 use Rattle.rules.specs.Numbers.{wordSize, laneSize, lanes, partAt, lowOf, bit}
 use Rattle.rules.specs.Execution.{maskAt, laneHolds, count, laneResult}
+use Rattle.rules.specs.Targets.{Allowed}
 use Rattle.rules.specs.Executing.{put, Admitted, guardHolds, run}
 use Rattle.rules.specs.LaneScalars.{Operation, compares, computes, simdOf, saturates, partSelector, laneRecord, ScalarLine, maskedSum, extended, takenApart, clampedApart, runAll, answersAll}
 use Rattle.laws.specs.LaneLaws as numbers
@@ -52,11 +54,12 @@ vset-does-not cmp = refl
 pub masked-sum-counts : (l : Lanes) (f : ℕ → Bool) → maskedSum l (λ i. bit (f i)) ≡ count (lanes (l .width)) (λ i. maskAt (l .mask) i && f i)
 masked-sum-counts l f = numbers.masked-sum-counts l f
 
--- ==== x is a legal SIMD line. The scalar line of a lane is itself legal, with any word registers as its destination and its c
+-- ==== x is a legal SIMD line, at a target that allows it (T-07). The scalar line of a lane is itself legal and allowed there, with any word registers as
+-- its destination and its c
 
-module _ (x : Record) (legal : Legal x) (l : Lanes) where
-  pub scalar-legal : (o : Operation) → x .instruction ≡ simdOf o l → (i : ℕ) (form : Form) → formInRange form ≡ true → Legal (laneRecord (x .guard) o l i form)
-  scalar-legal o is i form h = laws.lane-legal x legal o l is i form h
+module _ (target : Target) (x : Record) (allowed : Allowed target x) (l : Lanes) where
+  pub scalar-allowed : (o : Operation) → x .instruction ≡ simdOf o l → (i : ℕ) (form : Form) → formInRange form ≡ true → Allowed target (laneRecord (x .guard) o l i form)
+  scalar-allowed o is i form h = laws.lane-allowed target x allowed o l is i form h
 
   -- ==== on files f that document 01 admits, with a guard that holds
 
@@ -65,103 +68,103 @@ module _ (x : Record) (legal : Legal x) (l : Lanes) where
 
     module _ (cmp : Cmp6) (is : x .instruction ≡ simdOf (compares cmp) l) (i : ℕ) (h : i < lanes (l .width)) (d : Word) (inside : Inside (r d)) where
       -- running the scalar vset of a lane gives that lane's number in its destination: 1 or 0, as the lane holds
-      pub vset-gives-lane : at (run (laneRecord (x .guard) (compares cmp) l i (Plain d)) f .files) (r d) ≡ bit (laneHolds cmp l (at f (r (l .a))) (at f (r (l .b))) i)
-      vset-gives-lane = laws.vset-number x legal l f admitted guard cmp is i h d inside
+      pub vset-gives-lane : at (run target (laneRecord (x .guard) (compares cmp) l i (Plain d)) f .files) (r d) ≡ bit (laneHolds cmp l (at f (r (l .a))) (at f (r (l .b))) i)
+      vset-gives-lane = laws.vset-number target x allowed l f admitted guard cmp is i h d inside
 
       -- "every masked lane of vset2 and vset4 without `add` equals the scalar vset on the parts its selectors pick, with the same types and comparison"
       pub lane-is-vset : l .add ≡ false → maskAt (l .mask) i ≡ true
-          → partAt (laneSize (l .width)) (at (run x f .files) (r (l .d))) i ≡ at (run (laneRecord (x .guard) (compares cmp) l i (Plain d)) f .files) (r d)
-      lane-is-vset plain m = laws.vset-lane x legal l f admitted guard cmp is i h d inside plain m
+          → partAt (laneSize (l .width)) (at (run target x f .files) (r (l .d))) i ≡ at (run target (laneRecord (x .guard) (compares cmp) l i (Plain d)) f .files) (r d)
+      lane-is-vset plain m = laws.vset-lane target x allowed l f admitted guard cmp is i h d inside plain m
 
     -- ---- T-01's
 
     module _ (op : Arith) (dtype : VideoType) (i : ℕ) (h : i < lanes (l .width)) (d : Word) (inside : Inside (r d)) where
       -- running the scalar line of a lane, without `sat`, gives the low 32 bits of the lane's exact result in its destination,
       pub arithmetic-gives-lane : x .instruction ≡ simdOf (computes op dtype false) l
-          → at (run (laneRecord (x .guard) (computes op dtype false) l i (Plain d)) f .files) (r d)
+          → at (run target (laneRecord (x .guard) (computes op dtype false) l i (Plain d)) f .files) (r d)
           ≡ lowOf wordSize (laneResult (LaneArith.Scalar op) dtype false l (at f (r (l .a))) (at f (r (l .b))) i)
-      arithmetic-gives-lane is = laws.plain-holds x legal (computes op dtype false) l is f admitted guard i h d inside refl
+      arithmetic-gives-lane is = laws.plain-holds target x allowed (computes op dtype false) l is f admitted guard i h d inside refl
 
       -- and with the selector of the lane's own part on d, that part is the low bits of the lane's result, clamped if `sat`
       pub part-gives-lane : (sat : Bool) → x .instruction ≡ simdOf (computes op dtype sat) l → (c : Word) → Inside (r c)
-          → partAt (laneSize (l .width)) (at (run (laneRecord (x .guard) (computes op dtype sat) l i (Merge d (partSelector (l .width) i) c)) f .files) (r d)) i
+          → partAt (laneSize (l .width)) (at (run target (laneRecord (x .guard) (computes op dtype sat) l i (Merge d (partSelector (l .width) i) c)) f .files) (r d)) i
           ≡ lowOf (laneSize (l .width)) (laneResult (LaneArith.Scalar op) dtype sat l (at f (r (l .a))) (at f (r (l .b))) i)
-      part-gives-lane sat is c in-c = laws.merge-holds x legal (computes op dtype sat) l is f admitted guard i h d inside c in-c
+      part-gives-lane sat is c in-c = laws.merge-holds target x allowed (computes op dtype sat) l is f admitted guard i h d inside c in-c
 
     -- ---- all but the average
 
     -- "`add` equals c plus the sum of those scalar results, modulo 2^32", over the masked lanes; each scalar line may have a destination of its own
     pub add-is-sum : (o : Operation) → x .instruction ≡ simdOf o l → saturates o ≡ false → l .add ≡ true → (d : ℕ → Word) → ((i : ℕ) → Inside (r (d i)))
-        → at (run x f .files) (r (l .d)) ≡ (at f (r (l .c)) + maskedSum l (λ i. at (run (laneRecord (x .guard) o l i (Plain (d i))) f .files) (r (d i)))) % wordSize
-    add-is-sum o is no-sat adds d inside = laws.lanes-add x legal o l is f admitted guard adds no-sat d inside
+        → at (run target x f .files) (r (l .d)) ≡ (at f (r (l .c)) + maskedSum l (λ i. at (run target (laneRecord (x .guard) o l i (Plain (d i))) f .files) (r (d i)))) % wordSize
+    add-is-sum o is no-sat adds d inside = laws.lanes-add target x allowed o l is f admitted guard adds no-sat d inside
 
     module _ (o : Operation) (is : x .instruction ≡ simdOf o l) (plain : l .add ≡ false) (i : ℕ) (h : i < lanes (l .width)) (masked : maskAt (l .mask) i ≡ true) (d : Word) (inside : Inside (r d)) where
       -- with a selector on d, that of the lane's own part, the scalar line's part is the masked lane: the same low bits, and with `sat` the same clamp
       pub lane-is-part : (c : Word) → Inside (r c)
-          → partAt (laneSize (l .width)) (at (run x f .files) (r (l .d))) i
-          ≡ partAt (laneSize (l .width)) (at (run (laneRecord (x .guard) o l i (Merge d (partSelector (l .width) i) c)) f .files) (r d)) i
-      lane-is-part c in-c = laws.lane-merges x legal o l is f admitted guard i h d inside plain masked c in-c
+          → partAt (laneSize (l .width)) (at (run target x f .files) (r (l .d))) i
+          ≡ partAt (laneSize (l .width)) (at (run target (laneRecord (x .guard) o l i (Merge d (partSelector (l .width) i) c)) f .files) (r d)) i
+      lane-is-part c in-c = laws.lane-merges target x allowed o l is f admitted guard i h d inside plain masked c in-c
 
       -- with a bare d and without `sat`, the masked lane is the low bits of the scalar line's word
       pub lane-is-low : saturates o ≡ false
-          → partAt (laneSize (l .width)) (at (run x f .files) (r (l .d))) i ≡ at (run (laneRecord (x .guard) o l i (Plain d)) f .files) (r d) % laneSize (l .width)
-      lane-is-low no-sat = laws.lane-low x legal o l is f admitted guard i h d inside plain no-sat masked
+          → partAt (laneSize (l .width)) (at (run target x f .files) (r (l .d))) i ≡ at (run target (laneRecord (x .guard) o l i (Plain d)) f .files) (r d) % laneSize (l .width)
+      lane-is-low no-sat = laws.lane-low target x allowed o l is f admitted guard i h d inside plain no-sat masked
 
     -- with `sat` and `add` the clamp is at the lane's width: c plus the sum of what stands in the scalar lines' parts, each read by dtype
     pub clamped-add-is-sum : (op : Arith) (dtype : VideoType) → x .instruction ≡ simdOf (computes op dtype true) l → l .add ≡ true
         → (d c : ℕ → Word) → ((i : ℕ) → Inside (r (d i))) → ((i : ℕ) → Inside (r (c i)))
-        → at (run x f .files) (r (l .d))
-        ≡ (at f (r (l .c)) + maskedSum l (λ i. extended l dtype i (at (run (laneRecord (x .guard) (computes op dtype true) l i (Merge (d i) (partSelector (l .width) i) (c i))) f .files) (r (d i))))) % wordSize
-    clamped-add-is-sum op dtype is adds d c in-d in-c = laws.lanes-add-clamped x legal l f admitted guard op dtype is adds d c in-d in-c
+        → at (run target x f .files) (r (l .d))
+        ≡ (at f (r (l .c)) + maskedSum l (λ i. extended l dtype i (at (run target (laneRecord (x .guard) (computes op dtype true) l i (Merge (d i) (partSelector (l .width) i) (c i))) f .files) (r (d i))))) % wordSize
+    clamped-add-is-sum op dtype is adds d c in-d in-c = laws.lanes-add-clamped target x allowed l f admitted guard op dtype is adds d c in-d in-c
 
   -- ==== on files that document 01 admits a technician may replace the SIMD line by scalar lines, one after another. Without `sat` or without `add`, each masked lane has one:
 
   module _ (o : Operation) (is : x .instruction ≡ simdOf o l) where
-    -- all of them are legal lines of scalar video, under the SIMD line's guard,
-    pub lines-legal : (e : Word) → Inside (r e) → (y : Record) → Listed y (takenApart (x .guard) o l e) → ScalarLine (x .guard) y
-    lines-legal e inside y m = laws.lines-scalar x legal o l is e inside y m
+    -- all of them are lines of scalar video, legal and allowed at the target, under the SIMD line's guard,
+    pub lines-allowed : (e : Word) → Inside (r e) → (y : Record) → Listed y (takenApart (x .guard) o l e) → ScalarLine target (x .guard) y
+    lines-allowed e inside y m = laws.lines-scalar target x allowed o l is e inside y m
 
     module _ (f : Files) (admitted : Admitted f) where
       -- and answer as it does: done, or skipped where the guard does not hold, and then they move nothing.
-      pub lines-answer : (e : Word) → Inside (r e) → answersAll (takenApart (x .guard) o l e) f ≡ map (λ (y : Record). run x f .answer) (takenApart (x .guard) o l e)
-      lines-answer e inside = laws.lines-answer x legal o l is f admitted (takenApart (x .guard) o l e) (laws.lines-scalar x legal o l is e inside)
+      pub lines-answer : (e : Word) → Inside (r e) → answersAll target (takenApart (x .guard) o l e) f ≡ map (λ (y : Record). run target x f .answer) (takenApart (x .guard) o l e)
+      lines-answer e inside = laws.lines-answer target x allowed o l is f admitted (takenApart (x .guard) o l e) (laws.lines-scalar target x allowed o l is e inside)
 
-      pub lines-skipped : guardHolds (f .preds) (x .guard) ≡ false → (e : Word) → Inside (r e) → runAll (takenApart (x .guard) o l e) f ≡ f
-      lines-skipped guard e inside = all-skipped (x .guard) (takenApart (x .guard) o l e) (laws.lines-scalar x legal o l is e inside) f admitted guard
+      pub lines-skipped : guardHolds (f .preds) (x .guard) ≡ false → (e : Word) → Inside (r e) → runAll target (takenApart (x .guard) o l e) f ≡ f
+      lines-skipped guard e inside = all-skipped target (x .guard) (takenApart (x .guard) o l e) (laws.lines-scalar target x allowed o l is e inside) f admitted guard
 
       module _ (one-line : saturates o && l .add ≡ false) where
         -- Where it holds, they leave in e, a register that is neither a nor b, what the SIMD line leaves in d, and move nothing else,
         pub replaced-elsewhere : guardHolds (f .preds) (x .guard) ≡ true → (e : Word) → Inside (r e) → (e .0 ≡ l .a .0 → ⊥) → (e .0 ≡ l .b .0 → ⊥)
-            → runAll (takenApart (x .guard) o l e) f ≡ put (r e) (at (run x f .files) (r (l .d))) f
-        replaced-elsewhere guard e inside not-a not-b = laws.taken-apart x legal o l is f admitted e inside one-line guard not-a not-b
+            → runAll target (takenApart (x .guard) o l e) f ≡ put (r e) (at (run target x f .files) (r (l .d))) f
+        replaced-elsewhere guard e inside not-a not-b = laws.taken-apart target x allowed o l is f admitted e inside one-line guard not-a not-b
 
         -- and in the SIMD line's place, where its d is neither a nor b, they leave the files as it does, whether the guard holds or not
-        pub replaced-in-place : (l .d .0 ≡ l .a .0 → ⊥) → (l .d .0 ≡ l .b .0 → ⊥) → runAll (takenApart (x .guard) o l (l .d)) f ≡ run x f .files
-        replaced-in-place not-a not-b = laws.in-place x legal o l is f admitted one-line not-a not-b
+        pub replaced-in-place : (l .d .0 ≡ l .a .0 → ⊥) → (l .d .0 ≡ l .b .0 → ⊥) → runAll target (takenApart (x .guard) o l (l .d)) f ≡ run target x f .files
+        replaced-in-place not-a not-b = laws.in-place target x allowed o l is f admitted one-line not-a not-b
 
   -- With `sat` and `add` each masked lane has two, by way of a spare register t, which is none of a, b, c and the register that gets the result:
 
   module _ (op : Arith) (dtype : VideoType) (is : x .instruction ≡ simdOf (computes op dtype true) l) (t : Word) (in-t : Inside (r t)) where
-    -- all of them are legal lines of scalar video, under the SIMD line's guard,
-    pub clamped-legal : (e : Word) → Inside (r e) → (y : Record) → Listed y (clampedApart (x .guard) op dtype l t e) → ScalarLine (x .guard) y
-    clamped-legal e in-e y m = clamped.clamped-scalar x legal op dtype l is t e in-t in-e y m
+    -- all of them are lines of scalar video, legal and allowed at the target, under the SIMD line's guard,
+    pub clamped-allowed : (e : Word) → Inside (r e) → (y : Record) → Listed y (clampedApart (x .guard) op dtype l t e) → ScalarLine target (x .guard) y
+    clamped-allowed e in-e y m = clamped.clamped-scalar target x allowed op dtype l is t e in-t in-e y m
 
     module _ (f : Files) (admitted : Admitted f) where
       -- and answer as it does, and where the guard does not hold they move nothing.
-      pub clamped-answer : (e : Word) → Inside (r e) → answersAll (clampedApart (x .guard) op dtype l t e) f ≡ map (λ (y : Record). run x f .answer) (clampedApart (x .guard) op dtype l t e)
+      pub clamped-answer : (e : Word) → Inside (r e) → answersAll target (clampedApart (x .guard) op dtype l t e) f ≡ map (λ (y : Record). run target x f .answer) (clampedApart (x .guard) op dtype l t e)
       clamped-answer e in-e =
-          laws.lines-answer x legal (computes op dtype true) l is f admitted (clampedApart (x .guard) op dtype l t e) (clamped.clamped-scalar x legal op dtype l is t e in-t in-e)
+          laws.lines-answer target x allowed (computes op dtype true) l is f admitted (clampedApart (x .guard) op dtype l t e) (clamped.clamped-scalar target x allowed op dtype l is t e in-t in-e)
 
-      pub clamped-skipped : guardHolds (f .preds) (x .guard) ≡ false → (e : Word) → Inside (r e) → runAll (clampedApart (x .guard) op dtype l t e) f ≡ f
-      clamped-skipped guard e in-e = all-skipped (x .guard) (clampedApart (x .guard) op dtype l t e) (clamped.clamped-scalar x legal op dtype l is t e in-t in-e) f admitted guard
+      pub clamped-skipped : guardHolds (f .preds) (x .guard) ≡ false → (e : Word) → Inside (r e) → runAll target (clampedApart (x .guard) op dtype l t e) f ≡ f
+      clamped-skipped guard e in-e = all-skipped target (x .guard) (clampedApart (x .guard) op dtype l t e) (clamped.clamped-scalar target x allowed op dtype l is t e in-t in-e) f admitted guard
 
       module _ (adds : l .add ≡ true) (not-a : t .0 ≡ l .a .0 → ⊥) (not-b : t .0 ≡ l .b .0 → ⊥) (not-c : t .0 ≡ l .c .0 → ⊥) where
         -- Where it holds, they leave in e, which is neither a nor b, what the SIMD line leaves in d, something in t, and move nothing else,
         pub clamped-elsewhere : guardHolds (f .preds) (x .guard) ≡ true → (e : Word) → Inside (r e) → (t .0 ≡ e .0 → ⊥) → (e .0 ≡ l .a .0 → ⊥) → (e .0 ≡ l .b .0 → ⊥)
-            → (w : ℕ) × (runAll (clampedApart (x .guard) op dtype l t e) f ≡ put (r e) (at (run x f .files) (r (l .d))) (put (r t) w f))
-        clamped-elsewhere guard e in-e not-e ea eb = clamped.clamped-apart x legal op dtype l is t e in-t in-e adds not-e not-a not-b not-c ea eb f admitted guard
+            → (w : ℕ) × (runAll target (clampedApart (x .guard) op dtype l t e) f ≡ put (r e) (at (run target x f .files) (r (l .d))) (put (r t) w f))
+        clamped-elsewhere guard e in-e not-e ea eb = clamped.clamped-apart target x allowed op dtype l is t e in-t in-e adds not-e not-a not-b not-c ea eb f admitted guard
 
         -- and in the SIMD line's place, where its d is neither a nor b, they leave the files as it does, but for t, whether the guard holds or not
         pub clamped-in-place : (t .0 ≡ l .d .0 → ⊥) → (l .d .0 ≡ l .a .0 → ⊥) → (l .d .0 ≡ l .b .0 → ⊥)
-            → (w : ℕ) × (runAll (clampedApart (x .guard) op dtype l t (l .d)) f ≡ put (r t) w (run x f .files))
-        clamped-in-place not-d da db = clamped.clamped-in-place x legal op dtype l is t in-t adds not-d not-a not-b not-c da db f admitted
+            → (w : ℕ) × (runAll target (clampedApart (x .guard) op dtype l t (l .d)) f ≡ put (r t) w (run target x f .files))
+        clamped-in-place not-d da db = clamped.clamped-in-place target x allowed op dtype l is t in-t adds not-d not-a not-b not-c da db f admitted

@@ -2,6 +2,7 @@
 use execute::Executed;
 use read::Reading;
 use record::Record;
+use record::Target;
 use write::Written;
 ghost use mathlib.Core.Path.{_≡_};
 ghost use Rattle.record.specs.Registers.{files};
@@ -13,11 +14,11 @@ ghost use Rattle.execute.specs.Answers as executed;
 ghost use Rattle.read.specs.Paper.{answerOf};
 ghost use Rattle.write.specs.Answers as written;
 
-// The record that the line spells, or the first refusal of 1 to 7 that applies.
-pub fn read(line: &[u8]) -> Reading
-    ensures { λ a. ⌜ Answers (now (line .entry)) (answerOf a) ⌝ }
+// The record that the line spells, or the first refusal of 1 to 7 and 12 that applies at the target.
+pub fn read(target: Target, line: &[u8]) -> Reading
+    ensures { λ a. ⌜ Answers target (now (line .entry)) (answerOf a) ⌝ }
 {
-    read::read(line)
+    read::read(target, line)
 }
 
 // The record's standard line at the front of buf, and its length; or 8 or 9, and buf as it was.
@@ -27,15 +28,16 @@ pub fn write(r: Record, buf: &mut [u8]) -> Written
     write::write(r, buf)
 }
 
-// The record executed on the files, or skipped; or 8, 10 or 11, and the files as they were.
+// The record executed at the target on the files, or skipped; or 8, 12, 10 or 11, and the files as they were.
 pub fn execute(
+    target: Target,
     r: Record,
     words: &mut [u32],
     halves: &mut [u16],
     doubles: &mut [u64],
     preds: &mut [u8],
 ) -> Executed
-    ensures { λ a. ⌜ executing.outcome (executed.answerOf a) (files (now (words .exit)) (now (halves .exit)) (now (doubles .exit)) (now (preds .exit))) ≡ run r (files (now (words .entry)) (now (halves .entry)) (now (doubles .entry)) (now (preds .entry))) ⌝ }
+    ensures { λ a. ⌜ executing.outcome (executed.answerOf a) (files (now (words .exit)) (now (halves .exit)) (now (doubles .exit)) (now (preds .exit))) ≡ run target r (files (now (words .entry)) (now (halves .entry)) (now (doubles .entry)) (now (preds .entry))) ⌝ }
 {
-    execute::execute(r, words, halves, doubles, preds)
+    execute::execute(target, r, words, halves, doubles, preds)
 }

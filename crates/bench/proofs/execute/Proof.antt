@@ -39,7 +39,7 @@ execute-spec =
 pub execute-one-outcome :
     (κs : Lfts 4) (a : Dens κs kinds.ps) (x y : Executed) (s t : AtExit (endedOf 4 kinds.ps kinds.r) κs)
     → reads.Post κs a x s → reads.Post κs a y t
-    → (x ≡ y) × (now (s .1 .0) ≡ now (t .1 .0)) × (now (s .1 .1 .0) ≡ now (t .1 .1 .0)) × (now (s .1 .1 .1 .0) ≡ now (t .1 .1 .1 .0)) × (now (s .1 .1 .1 .1 .0) ≡ now (t .1 .1 .1 .1 .0))
+    → (x ≡ y) × (now (s .1 .1 .0) ≡ now (t .1 .1 .0)) × (now (s .1 .1 .1 .0) ≡ now (t .1 .1 .1 .0)) × (now (s .1 .1 .1 .1 .0) ≡ now (t .1 .1 .1 .1 .0)) × (now (s .1 .1 .1 .1 .1 .0) ≡ now (t .1 .1 .1 .1 .1 .0))
 execute-one-outcome κs a x y s t p q =
     let z = one-outcome p q in
     (answers-one x y (ap (λ (o : Outcome). o .answer) z), ap (λ (o : Outcome). o .files .words) z, ap (λ (o : Outcome). o .files .halves) z, ap (λ (o : Outcome). o .files .doubles) z, ap (λ (o : Outcome). o .files .preds) z)
