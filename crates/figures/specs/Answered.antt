@@ -1,4 +1,4 @@
--- Lines and the answers that document 01, T-05 and T-06 give them: lines that are read, each refusal 1 to 7, from 2 on with its place, and lines to which more than one
+-- Lines and the answers that document 01, T-05, T-06 and T-07 give them: lines that are read, each refusal 1 to 7, from 2 on with its place, 12, and lines to which more than one
 -- applies. One list with one claim.
 use Prim.Native.Nat.{ℕ}
 use mathlib.Core.Path.{_≡_, refl, subst}
@@ -6,6 +6,9 @@ use mathlib.Core.List.{List, [], _∷_, _++_, map}
 use lib.ListN.{replicate}
 use Rattle.signs.specs.Text.{bytes}
 use Rattle.base.specs.Pack.{codeOf}
+use Rattle.record.specs.declared.Target.{Target}
+use Rattle.record.specs.declared.Target.the-variants.{Sm10, Sm13, Sm20, Sm30}
+use Rattle.rules.specs.Targets.{allows}
 use Rattle.rules.specs.Reading.{Answer, read, refused, refused-at, Answers}
 use Rattle.scan.specs.Runs.{cappedSum}
 use Rattle.scan.specs.Numbers.{numberFound, numberBy}
@@ -17,7 +20,7 @@ use Rattle.shape.specs.Operand.{operandScanned, invertedBy, firstOf, afterBy, p
 use Rattle.shape.specs.Operands.{operandsScanned, operandTurn, operandBy, dividedBy, dividerOf, dividerBy, pushedTree}
 use Rattle.shape.specs.Line.{shapeOf, guardedBy, fromHead, fromGap, fromOperands, fromEnd, stoppedAt}
 use Rattle.names.specs.Back.{opcodeOf, videoOf, setTypeOf, typeOf, sixOf, cmpOf, boolOpOf, op2Of, selectorOf}
-use Rattle.heads.specs.Rows.{rowOf, rowBy, foundOf, readOf as readHead, nameAt, wholeOf, sidesAt, sidesBy, headCompared, comparedBy, typedOf, typedBy, endingAt, endingBy, arithmeticRow, arithmeticTyped, arithmeticBy, vsetLanesRow, vsetLanesBy, testedOf, testedBy, testAt, setRow, setTested, setAt, setBy, setpRow, setpTested, setpAt, setpBy, selpRow, selpBy, slctRow, slctAt, slctBy}
+use Rattle.heads.specs.Rows.{rowOf, rowBy, foundOf, readOf as readHead, nameAt, wholeOf, sidesAt, sidesBy, headCompared, comparedBy, typedOf, typedBy, endingAt, endingBy, arithmeticRow, arithmeticTyped, arithmeticBy, vsetRow, vsetBy, vsetLanesRow, vsetLanesBy, laneArithmeticRow, laneArithmeticTyped, laneArithmeticBy, testedOf, testedBy, testAt, setRow, setTested, setAt, setBy, setpRow, setpTested, setpAt, setpBy, selpRow, selpBy, slctRow, slctAt, slctBy}
 use Rattle.heads.specs.Tables.{slctTypeOf}
 use Rattle.masks.specs.Masks.{maskOf, falling, digitsNamed, digitsIn}
 use Rattle.fills.specs.Fills.{filledOf, treeAt, scalarFrom, lanesFrom, comparisonFrom, choiceFrom}
@@ -33,14 +36,19 @@ use Rattle.fillplace.specs.Tries.{isFilled, beginsFilled, operandPlaceOf}
 use Rattle.places.specs.Mirror.{modifierPlaceOf, operandIndexOf, legalPlaceOf, guardPlaceOf, partsPlaceOf, placeOf}
 use Rattle.read.specs.Mirror.{candidateOf, verdictOf, refusedBy, readOf}
 use Rattle.read.specs.Answering.{answers}
-use Rattle.figures.specs.Lines.{exampleVset4, exampleSetp, exampleSelp, highestWord, halfSelp, halfSet}
+use Rattle.figures.specs.Lines.{exampleVset4, exampleSetp, exampleSelp, highestWord, halfSelp, halfSet, doubleSet, bitsSelp, flushedSlct}
 
 pub record Answered : Type 0 where
+  pub target : Target
   pub line : List ℕ
   pub answer : Answer
 
+-- at sm_30, T-07: or at another target
 abbrev gets : List ℕ → Answer → Answered
-gets l a = record { line = l; answer = a }
+gets l a = record { target = Sm30; line = l; answer = a }
+
+abbrev at : Target → List ℕ → Answer → Answered
+at t l a = record { target = t; line = l; answer = a }
 
 -- 37 bytes and n blanks
 abbrev padded : ℕ → List ℕ
@@ -141,24 +149,57 @@ answered =
     ∷ gets (bytes "slct.u16.s32 %rs1, %rs2, %rs3, %rs4;") (refused-at 5 31)
     ∷ gets (bytes "slct.u16.s32 %rs1, %rs2, %rs3;") (refused-at 5 29)
     ∷ gets (bytes "selp.u16 %rs1.h0, %rs2, %rs3, %p1;") (refused-at 5 9)
+    -- T-07: scalar video needs sm_20, and 6 comes first
+    ∷ at Sm13 (bytes "vadd.u32.u32.u32 %r63, %r1, %r2;") (refused 12)
+    ∷ at Sm20 (bytes "vadd.u32.u32.u32 %r63, %r1, %r2;") (read highestWord)
+    ∷ at Sm13 (bytes "vadd.u32.u32.u32 %r1, %r2, %r3;") (refused 12)
+    ∷ at Sm13 (bytes "vadd.u32.u32.u32 %r64, %r2, %r3;") (refused-at 6 17)
+    ∷ at Sm13 (bytes "vset.u32.u32.lt %r1, %r2, %r3;") (refused 12)
+    ∷ at Sm10 (bytes "vmax.u32.u32.u32.sat.add %r1, %r2, %r3, %r4;") (refused 12)
+    -- forms with 2 or 4 need sm_30
+    ∷ at Sm20 (bytes "vset4.u32.u32.lt %r10, %r1, %r2, %r0;") (refused 12)
+    ∷ at Sm20 (bytes "vset2.u32.u32.lt %r10, %r1, %r2, %r0;") (refused 12)
+    ∷ at Sm20 (bytes "vavrg4.u32.u32.u32 %r10, %r1, %r2, %r0;") (refused 12)
+    ∷ at Sm20 (bytes "vadd2.u32.u32.u32 %r10, %r1, %r2, %r0;") (refused 12)
+    -- f64 types need sm_13
+    ∷ at Sm10 (bytes "set.lt.u32.f64 %r1, %rd2, %rd3;") (refused 12)
+    ∷ at Sm13 (bytes "set.lt.u32.f64 %r1, %rd2, %rd3;") (read doubleSet)
+    ∷ at Sm10 (bytes "setp.lt.f64 %p1, %rd2, %rd3;") (refused 12)
+    ∷ at Sm10 (bytes "selp.f64 %rd1, %rd2, %rd3, %p1;") (refused 12)
+    ∷ at Sm10 (bytes "slct.f64.s32 %rd1, %rd2, %rd3, %r1;") (refused 12)
+    ∷ at Sm10 (bytes "slct.ftz.f64.f32 %rd1, %rd2, %rd3, %r1;") (refused 12)
+    ∷ at Sm10 (bytes "@%p1 selp.f64 %rd1, %rd2, %rd3, %p1;") (refused 12)
+    -- b64 and all else need nothing, `ftz` among it
+    ∷ at Sm10 (bytes "selp.b64 %rd1, %rd2, %rd3, %p1;") (read bitsSelp)
+    ∷ at Sm10 (bytes "set.gt.u32.s16 %r1, %rs5, %rs0;") (read halfSet)
+    ∷ at Sm10 (bytes "slct.ftz.f32.f32 %r1, %r2, %r3, %r4;") (read flushedSlct)
+    ∷ at Sm10 (bytes "@!%p1  selp.u32 %r11, %r1,%r2, %p1;") (read exampleSelp)
+    -- 1 to 7 come first, with the places that they have at each target
+    ∷ at Sm10 (padded 124) (refused 1)
+    ∷ at Sm10 (bytes "vset4.u32.u32.lt %r10, %r1, %r2, %r0") (refused-at 2 36)
+    ∷ at Sm10 (bytes "vavrg.u32.u32.u32 %r1, %r2, %r3;") (refused-at 3 0)
+    ∷ at Sm10 (bytes "selp.f64.u32 %rd1, %rd2, %rd3, %p1;") (refused-at 4 9)
+    ∷ at Sm10 (bytes "vset4.u32.u32.lt %r10.b01, %r1, %r2, %r0;") (refused-at 5 17)
+    ∷ at Sm10 (bytes "setp.lt.f64 %p1|%p1, %rd32, %rd3;") (refused-at 6 21)
+    ∷ at Sm10 (bytes "setp.lt.f64 %p1|%p1, %rd2, %rd3;") (refused-at 7 16)
     ∷ []
 
 -- the reader's stages give each line its answer
-answered-computed : map (λ (x : Answered). readOf (x .line)) answered ≡ map (λ (x : Answered). x .answer) answered
-unfolding answered readOf refusedBy verdictOf placeOf partsPlaceOf modifierPlaceOf guardPlaceOf legalPlaceOf operandIndexOf rowPlaceOf row.guessOf beginsRow row.tried row.completed row.entry isRow operandPlaceOf fill.guessOf beginsFilled fill.tried fill.completed fill.entry isFilled turnsAt searched shapePlaceOf wrongFrom step register digits follow ends named headAt guardEnd nameFrom operandsAt operandFrom nextAt nextOf nextBy barAt overAt candidateOf shapeOf guardedBy guardOf guardBy fromHead headOf turns nameTurn nameBy pushedName fromGap fromOperands operandsScanned operandTurn operandBy operandScanned invertedBy firstOf afterBy partOf secondOf secondBy dividedBy dividerOf dividerBy pushedTree fromEnd stoppedAt registerOf registerBy prefixBy registerFrom numberFound numberBy cappedSum codeOf rowOf rowBy foundOf readHead nameAt wholeOf sidesAt sidesBy headCompared comparedBy typedOf typedBy endingAt endingBy arithmeticRow arithmeticTyped arithmeticBy vsetLanesRow vsetLanesBy testedOf testedBy testAt setRow setTested setAt setBy setpRow setpTested setpAt setpBy selpRow selpBy slctRow slctAt slctBy slctTypeOf opcodeOf videoOf setTypeOf selectorOf typeOf sixOf cmpOf boolOpOf op2Of maskOf falling digitsNamed digitsIn filledOf treeAt scalarFrom lanesFrom comparisonFrom choiceFrom
+answered-computed : map (λ (x : Answered). readOf (x .target) (x .line)) answered ≡ map (λ (x : Answered). x .answer) answered
+unfolding answered readOf allows refusedBy verdictOf placeOf partsPlaceOf modifierPlaceOf guardPlaceOf legalPlaceOf operandIndexOf rowPlaceOf row.guessOf beginsRow row.tried row.completed row.entry isRow operandPlaceOf fill.guessOf beginsFilled fill.tried fill.completed fill.entry isFilled turnsAt searched shapePlaceOf wrongFrom step register digits follow ends named headAt guardEnd nameFrom operandsAt operandFrom nextAt nextOf nextBy barAt overAt candidateOf shapeOf guardedBy guardOf guardBy fromHead headOf turns nameTurn nameBy pushedName fromGap fromOperands operandsScanned operandTurn operandBy operandScanned invertedBy firstOf afterBy partOf secondOf secondBy dividedBy dividerOf dividerBy pushedTree fromEnd stoppedAt registerOf registerBy prefixBy registerFrom numberFound numberBy cappedSum codeOf rowOf rowBy foundOf readHead nameAt wholeOf sidesAt sidesBy headCompared comparedBy typedOf typedBy endingAt endingBy arithmeticRow arithmeticTyped arithmeticBy vsetRow vsetBy vsetLanesRow vsetLanesBy laneArithmeticRow laneArithmeticTyped laneArithmeticBy testedOf testedBy testAt setRow setTested setAt setBy setpRow setpTested setpAt setpBy selpRow selpBy slctRow slctAt slctBy slctTypeOf opcodeOf videoOf setTypeOf selectorOf typeOf sixOf cmpOf boolOpOf op2Of maskOf falling digitsNamed digitsIn filledOf treeAt scalarFrom lanesFrom comparisonFrom choiceFrom
 answered-computed = refl
 
 -- the grammar gives each line of a list the answer beside it
 abbrev pub EachGets : List Answered → Type 0
 EachGets [] = Unit {0}
-EachGets (x ∷ xs) = Answers (x .line) (x .answer) × EachGets xs
+EachGets (x ∷ xs) = Answers (x .target) (x .line) (x .answer) × EachGets xs
 
-each : (xs : List Answered) → map (λ (x : Answered). readOf (x .line)) xs ≡ map (λ (x : Answered). x .answer) xs → EachGets xs
+each : (xs : List Answered) → map (λ (x : Answered). readOf (x .target) (x .line)) xs ≡ map (λ (x : Answered). x .answer) xs → EachGets xs
 each [] e = tt
 each (x ∷ xs) e =
-    let this : readOf (x .line) ≡ x .answer = cc in
-    let rest : map (λ (x : Answered). readOf (x .line)) xs ≡ map (λ (x : Answered). x .answer) xs = cc in
-    (subst (Answers (x .line)) this (answers (x .line)), each xs rest)
+    let this : readOf (x .target) (x .line) ≡ x .answer = cc in
+    let rest : map (λ (x : Answered). readOf (x .target) (x .line)) xs ≡ map (λ (x : Answered). x .answer) xs = cc in
+    (subst (Answers (x .target) (x .line)) this (answers (x .target) (x .line)), each xs rest)
 
 pub answered-hold : EachGets answered
 answered-hold = each answered answered-computed

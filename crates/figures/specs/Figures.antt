@@ -1,6 +1,6 @@
 -- Document 01, "Bench figures": the starred ones; then fourteen for T-01, which came with its issue, and sixteen for T-02, of which document 02
--- has two; then document 01's seven of execution without a star, and ten of ours; then twenty-five for T-06. One list with one claim. Each is a line
--- with its record and its files, through `run`, and the whole outcome. `%r0`, `%r1` and `%r2` hold a, b and c; d is `%r3`; of `%rs` a, b and d likewise.
+-- has two; then document 01's seven of execution without a star, and ten of ours; then twenty-five for T-06, all at sm_30; CardFigures.antt has those
+-- of T-07. One list with one claim. Each is a line with its record and its files, through `run`, and the whole outcome. `%r0`, `%r1` and `%r2` hold a, b and c; d is `%r3`; of `%rs` a, b and d likewise.
 -- Predicate 0 holds c of setp; its places are 1 and 2.
 use Prim.Native.Nat.{ℕ}
 use Prim.Native.String.{String}
@@ -54,14 +54,18 @@ use Rattle.record.specs.declared.Destination.the-variants.{One, Pair, Second}
 use Rattle.record.specs.declared.Instruction.{Instruction}
 use Rattle.record.specs.declared.Instruction.the-variants.{Arithmetic, Vset, VsetLanes, ArithmeticLanes, Set, Setp, Selp, Slct}
 use Rattle.record.specs.declared.Record.{Record}
+use Rattle.record.specs.declared.Target.{Target}
+use Rattle.record.specs.declared.Target.the-variants.{Sm30}
 use Rattle.rules.specs.Numbers.{exactOf, holdsZ}
 use Rattle.rules.specs.Execution.{selectedOf, formOf, arithmeticOf, vsetOf, laneHolds, lanesOf, laneResult, arithmeticLanesOf, valueOf, comparisonOf, notBelowZero}
 use Rattle.record.specs.Registers.{Files, files}
 use Rattle.rules.specs.StandardLine.{standard}
+use Rattle.rules.specs.Targets.{allows}
 use Rattle.rules.specs.Executing.{Answer, done, skipped, refused, Outcome, outcome, combinedOf, testOf, writes, after, sizesFit, predsFit, guardHolds, run}
 
--- a line, the record that it spells, the files before it, the answer, and the files that it leaves
+-- a target, a line, the record that it spells, the files before it, the answer, and the files that it leaves
 pub record Figure : Type 0 where
+  pub target : Target
   pub line : String
   pub spelled : Record
   pub before : Files
@@ -70,26 +74,26 @@ pub record Figure : Type 0 where
 
 -- ---- the records that the figures' lines spell
 
-abbrev always : Instruction → Record
+abbrev pub always : Instruction → Record
 always i = record { guard = Always; instruction = i }
 
-abbrev r : ℕ → Word
+abbrev pub r : ℕ → Word
 r n = record { 0 = n }
 
-abbrev p : ℕ → Pred
+abbrev pub p : ℕ → Pred
 p n = record { 0 = n }
 
 abbrev rs : ℕ → Operand
 rs n = Operand.Half (record { 0 = n })
 
 -- 64 words, 32 half-words, 32 double-words, 16 predicates, all 0 but the first few
-abbrev lent : List ℕ → List ℕ → Files
+abbrev pub lent : List ℕ → List ℕ → Files
 lent words preds = files words (replicate 32 0) (replicate 32 0) preds
 
-abbrev four : ℕ → ℕ → ℕ → ℕ → List ℕ
+abbrev pub four : ℕ → ℕ → ℕ → ℕ → List ℕ
 four a b c d = a ∷ b ∷ c ∷ d ∷ replicate 60 0
 
-abbrev three : ℕ → ℕ → ℕ → List ℕ
+abbrev pub three : ℕ → ℕ → ℕ → List ℕ
 three a b c = a ∷ b ∷ c ∷ replicate 13 0
 
 -- %r3, %r0, %r1, %r2 with a mask and a's selector; b's selector is its default
@@ -97,22 +101,22 @@ abbrev lanes : LaneWidth → VideoType → VideoType → Bool → Mask → Digit
 lanes w atype btype add mask asel =
     record { width = w; atype = atype; btype = btype; add = add; d = r 3; mask = mask; a = r 0; asel = asel; b = r 1; bsel = defaultB w; c = r 2 }
 
-abbrev vsetRecord : LaneWidth → VideoType → Cmp6 → Bool → Mask → Digits → Record
+abbrev pub vsetRecord : LaneWidth → VideoType → Cmp6 → Bool → Mask → Digits → Record
 vsetRecord w atype cmp add mask asel = always (VsetLanes cmp (lanes w atype U32 add mask asel))
 
-abbrev lanesRecord : LaneArith → LaneWidth → VideoType → VideoType → VideoType → Bool → Bool → Mask → Digits → Record
+abbrev pub lanesRecord : LaneArith → LaneWidth → VideoType → VideoType → VideoType → Bool → Bool → Mask → Digits → Record
 lanesRecord op w dtype atype btype sat add mask asel = always (ArithmeticLanes op dtype sat (lanes w atype btype add mask asel))
 
 -- all of one type, full mask, default selectors
-abbrev allOf : LaneArith → LaneWidth → VideoType → Bool → Bool → Record
+abbrev pub allOf : LaneArith → LaneWidth → VideoType → Bool → Bool → Record
 allOf op w t sat add = lanesRecord op w t t t sat add (fullMask w) (defaultA w)
 
-abbrev scalarRecord : Arith → VideoType → Bool → VideoType → VideoType → Form → Record
+abbrev pub scalarRecord : Arith → VideoType → Bool → VideoType → VideoType → Form → Record
 scalarRecord op dtype sat atype btype form =
     always (Arithmetic op dtype sat (record { atype = atype; btype = btype; form = form; a = Whole (r 0); b = Whole (r 1) }))
 
 -- vset of u32
-abbrev vsetWordRecord : Cmp6 → Form → Record
+abbrev pub vsetWordRecord : Cmp6 → Form → Record
 vsetWordRecord cmp form = always (Vset cmp (record { atype = U32; btype = U32; form = form; a = Whole (r 0); b = Whole (r 1) }))
 
 -- T-06: `%rs0` and `%rs1`, without BoolOp
@@ -132,7 +136,7 @@ abbrev slctHalves : SlctType → DataType → Record
 slctHalves ctype t = always (Slct ctype (record { dtype = t; d = rs 3; a = rs 0; b = rs 1 }) (r 2))
 
 -- stype f32, without BoolOp
-abbrev setRecord : CmpOp → Bool → SetType → Record
+abbrev pub setRecord : CmpOp → Bool → SetType → Record
 setRecord cmp ftz dtype =
     always
     (Set dtype (r 3)
@@ -154,7 +158,7 @@ selpRecord inverted = record {
 }
 
 -- slct.f32.f32 or slct.ftz.f32.f32
-abbrev slctRecord : Bool → Record
+abbrev pub slctRecord : Bool → Record
 slctRecord ftz =
     always
     (Slct (SlctType.F32 ftz)
@@ -177,21 +181,21 @@ abbrev other : ℕ
 other = 0x55555555
 
 -- d of a line whose words are a, b, c before
-abbrev gives : String → Record → ℕ → ℕ → ℕ → ℕ → Figure
+abbrev pub gives : String → Record → ℕ → ℕ → ℕ → ℕ → Figure
 gives line spelled a b c d =
-    record { line = line; spelled = spelled; before = lent (four a b c other) (three 0 0 0); answer = done; left = lent (four a b c d) (three 0 0 0) }
+    record { target = Sm30; line = line; spelled = spelled; before = lent (four a b c other) (three 0 0 0); answer = done; left = lent (four a b c d) (three 0 0 0) }
 
 -- the predicates of a line whose words are a and b before
-abbrev leaves : String → Record → ℕ → ℕ → List ℕ → List ℕ → Figure
+abbrev pub leaves : String → Record → ℕ → ℕ → List ℕ → List ℕ → Figure
 leaves line spelled a b before left =
-    record { line = line; spelled = spelled; before = lent (four a b 0 0) before; answer = done; left = lent (four a b 0 0) left }
+    record { target = Sm30; line = line; spelled = spelled; before = lent (four a b 0 0) before; answer = done; left = lent (four a b 0 0) left }
 
 -- the answer of a line that changes nothing
-abbrev answers : String → Record → Files → Answer → Figure
-answers line spelled f a = record { line = line; spelled = spelled; before = f; answer = a; left = f }
+abbrev pub answers : String → Record → Files → Answer → Figure
+answers line spelled f a = record { target = Sm30; line = line; spelled = spelled; before = f; answer = a; left = f }
 
 -- double-words 0, 1 and 3
-abbrev doubled : ℕ → ℕ → ℕ → List ℕ → Files
+abbrev pub doubled : ℕ → ℕ → ℕ → List ℕ → Files
 doubled a b d preds = files (replicate 64 0) (replicate 32 0) (a ∷ b ∷ 0 ∷ d ∷ replicate 28 0) preds
 
 -- T-06: half-words 0, 1 and 3, words 2 and 3
@@ -201,22 +205,22 @@ halved a b d c e preds = files (four 0 0 c e) (a ∷ b ∷ 0 ∷ d ∷ replicate
 -- set into `%r3`: what it leaves there; setp into `%p1|%p2`
 abbrev sets : String → Record → ℕ → ℕ → ℕ → Figure
 sets line spelled a b v =
-    record { line = line; spelled = spelled; before = halved a b 0 0 other (three 0 0 0); answer = done; left = halved a b 0 0 v (three 0 0 0) }
+    record { target = Sm30; line = line; spelled = spelled; before = halved a b 0 0 other (three 0 0 0); answer = done; left = halved a b 0 0 v (three 0 0 0) }
 
 abbrev sorts : String → Record → ℕ → ℕ → ℕ → ℕ → Figure
 sorts line spelled a b first second =
-    record { line = line; spelled = spelled; before = halved a b 0 0 0 (three 0 0 0); answer = done; left = halved a b 0 0 0 (three 0 first second) }
+    record { target = Sm30; line = line; spelled = spelled; before = halved a b 0 0 0 (three 0 0 0); answer = done; left = halved a b 0 0 0 (three 0 first second) }
 
 -- selp by `%p0`, slct by `%r2`, into `%rs3`
 abbrev copies : String → Record → ℕ → ℕ → ℕ → ℕ → ℕ → Figure
 copies line spelled a b c q d =
-    record { line = line; spelled = spelled; before = halved a b 0x1234 c 0 (three q 0 0); answer = done; left = halved a b d c 0 (three q 0 0) }
+    record { target = Sm30; line = line; spelled = spelled; before = halved a b 0x1234 c 0 (three q 0 0); answer = done; left = halved a b d c 0 (three q 0 0) }
 
 -- slct by c. a and b are subnormal themselves, so that a flushed copy would show
-abbrev picksA : String → Record → ℕ → Figure
+abbrev pub picksA : String → Record → ℕ → Figure
 picksA line spelled c = gives line spelled 0x80000001 0x007FFFFF c 0x80000001
 
-abbrev picksB : String → Record → ℕ → Figure
+abbrev pub picksB : String → Record → ℕ → Figure
 picksB line spelled c = gives line spelled 0x80000001 0x007FFFFF c 0x007FFFFF
 
 -- ---- the figures
@@ -301,6 +305,7 @@ figures =
     ∷ leaves "setp.lt.s32 _|%p2, %r0, %r1;" (setpRecord (Second (p 2)) Alone) 0 0xFFFFFFFF (three 0 0 0) (three 0 0 1)
     -- a guard that holds, by `!`, and one that does not; a copy of 64 bits
     ∷ record {
+      target = Sm30;
       line = "@!%p0 selp.b64 %rd3, %rd0, %rd1, %p1;";
       spelled = selpRecord true;
       before = doubled 0x123456789ABCDEF0 1 other (three 0 1 0);
@@ -354,8 +359,8 @@ said g = (bytes (g .line), outcome (g .answer) (g .left))
 
 -- what the definitions give: the standard line of its record, and how that record's run on its files ends
 abbrev pub given : Figure → List ℕ × Outcome
-given g = (standard (g .spelled), run (g .spelled) (g .before))
+given g = (standard (g .spelled), run (g .target) (g .spelled) (g .before))
 
 pub figures-hold : map given figures ≡ map said figures
-unfolding figures standard run isLegal sizesFit predsFit guardHolds after writes arithmeticOf vsetOf formOf selectedOf exactOf lanesOf laneHolds holdsZ laneResult arithmeticLanesOf combinedOf testOf comparisonOf valueOf notBelowZero lt eq isNan ofBits ofFields odd
+unfolding figures standard run allows isLegal sizesFit predsFit guardHolds after writes arithmeticOf vsetOf formOf selectedOf exactOf lanesOf laneHolds holdsZ laneResult arithmeticLanesOf combinedOf testOf comparisonOf valueOf notBelowZero lt eq isNan ofBits ofFields odd
 figures-hold = refl

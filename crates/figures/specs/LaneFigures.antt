@@ -32,12 +32,15 @@ use Rattle.record.specs.declared.Form.{Form}
 use Rattle.record.specs.declared.Form.the-variants.{Plain, Merge}
 use Rattle.record.specs.declared.Scalar.{Scalar}
 use Rattle.record.specs.declared.Record.{Record}
+use Rattle.record.specs.declared.Target.the-variants.{Sm30}
 use Rattle.rules.specs.Numbers.{laneSize, lanes, partAt, exactOf, holdsZ}
 use Rattle.rules.specs.Execution.{selectedOf, formOf, arithmeticOf, vsetOf, digitAt, maskAt, laneHolds, lanesOf, laneResult, arithmeticLanesOf}
 use Rattle.rules.specs.StandardLine.{standard}
+use Rattle.rules.specs.Targets.{allows}
 use Rattle.rules.specs.Executing.{writes, after, sizesFit, predsFit, Admitted, guardHolds, run}
 use Rattle.rules.specs.LaneScalars.{Operation, compares, computes, simdOf, scalarOf, partSelector, digitOperand, laneScalar, takenApart, clampedApart, runAll}
 use Rattle.laws.specs.TakenApartLaws.{vset-lane}
+use Rattle.laws.specs.TargetLaws.{newest-allows}
 
 -- a SIMD line, scalar lines, the files before both, and what `%r3` holds after the one and e after the others
 pub record Pair : Type 0 where
@@ -81,7 +84,7 @@ said g = (bytes (g .simd), map bytes (g .lines), g .after-simd, g .after-lines)
 -- what the definitions give: the standard lines of its records, and what their runs leave
 abbrev pub given : Pair → List ℕ × List (List ℕ) × ℕ × ℕ
 given g =
-    (standard (g .simdRecord), map standard (g .lineRecords), at (run (g .simdRecord) (g .before) .files) (r d), at (runAll (g .lineRecords) (g .before)) (r (g .e)))
+    (standard (g .simdRecord), map standard (g .lineRecords), at (run Sm30 (g .simdRecord) (g .before) .files) (r d), at (runAll Sm30 (g .lineRecords) (g .before)) (r (g .e)))
 
 -- 64 words, of which the first three hold a, b and c; the others, half-words, double-words and predicates are 0
 abbrev words : ℕ → ℕ → ℕ → Files
@@ -164,7 +167,7 @@ rights =
     ∷ []
 
 pub rights-hold : map given rights ≡ map said rights
-unfolding rights standard run isLegal sizesFit predsFit guardHolds after writes arithmeticOf vsetOf formOf selectedOf exactOf lanesOf laneHolds holdsZ laneResult arithmeticLanesOf
+unfolding rights standard run allows isLegal sizesFit predsFit guardHolds after writes arithmeticOf vsetOf formOf selectedOf exactOf lanesOf laneHolds holdsZ laneResult arithmeticLanesOf
 rights-hold = refl
 
 -- ---- wrong: SIMD lines taken apart by a wrong rule
@@ -221,7 +224,7 @@ wrongs =
     ∷ []
 
 pub wrongs-hold : map given wrongs ≡ map said wrongs
-unfolding wrongs standard run isLegal sizesFit predsFit guardHolds after writes arithmeticOf vsetOf formOf selectedOf exactOf lanesOf laneHolds holdsZ laneResult arithmeticLanesOf
+unfolding wrongs standard run allows isLegal sizesFit predsFit guardHolds after writes arithmeticOf vsetOf formOf selectedOf exactOf lanesOf laneHolds holdsZ laneResult arithmeticLanesOf
 wrongs-hold = refl
 
 -- none of them leaves what the SIMD line leaves
@@ -237,17 +240,17 @@ LaneIsVset rule =
     (x : Record) (f : Files) → Legal x → Admitted f → guardHolds (f .preds) (x .guard) ≡ true
     → (l : Lanes) (cmp : Cmp6) → x .instruction ≡ simdOf (compares cmp) l → l .add ≡ false
     → (i : ℕ) → i < lanes (l .width) → maskAt (l .mask) i ≡ true → (d : Word) → Inside (r d)
-    → partAt (laneSize (l .width)) (at (run x f .files) (r (l .d))) i ≡ at (run (record { guard = x .guard; instruction = scalarOf (compares cmp) (rule l i (Plain d)) }) f .files) (r d)
+    → partAt (laneSize (l .width)) (at (run Sm30 x f .files) (r (l .d))) i ≡ at (run Sm30 (record { guard = x .guard; instruction = scalarOf (compares cmp) (rule l i (Plain d)) }) f .files) (r d)
 
 pub by-the-side : LaneIsVset laneScalar
-by-the-side x f legal admitted guard l cmp is plain i h m d inside = vset-lane x legal l f admitted guard cmp is i h d inside plain m
+by-the-side x f legal admitted guard l cmp is plain i h m d inside = vset-lane Sm30 x (record { legal = legal; allowed = newest-allows x }) l f admitted guard cmp is i h d inside plain m
 
 -- what a wrong rule would give of a line's record and files
 module _ (rule : Lanes → ℕ → Form → Scalar) (law : LaneIsVset rule) where
   part-by : (l : Lanes) (f : Files) → isLegal (record { guard = Always; instruction = simdOf (compares Lt) l }) ≡ true → Admitted f
       → l .add ≡ false → (i : ℕ) → i < lanes (l .width) → maskAt (l .mask) i ≡ true
-      → partAt (laneSize (l .width)) (at (run (record { guard = Always; instruction = simdOf (compares Lt) l }) f .files) (r (l .d))) i
-      ≡ at (run (record { guard = Always; instruction = scalarOf (compares Lt) (rule l i (Plain e)) }) f .files) (r e)
+      → partAt (laneSize (l .width)) (at (run Sm30 (record { guard = Always; instruction = simdOf (compares Lt) l }) f .files) (r (l .d))) i
+      ≡ at (run Sm30 (record { guard = Always; instruction = scalarOf (compares Lt) (rule l i (Plain e)) }) f .files) (r e)
   unfolding guardHolds
   part-by l f legal admitted plain i h m = law (record { guard = Always; instruction = simdOf (compares Lt) l }) f legal admitted refl l Lt refl plain i h m e (omega arith)
 
@@ -266,7 +269,7 @@ byRegister l i form = record {
 
 -- lane 3 of vset4.s32.u32.lt %r3, %r0.b7210, %r1, %r2; is 1, and vset.u32.u32.lt %r4, %r1.b3, %r1.b3; gives 0
 pub not-by-register : LaneIsVset byRegister → ⊥
-unfolding run isLegal sizesFit predsFit guardHolds after writes vsetOf formOf selectedOf exactOf lanesOf laneHolds holdsZ
+unfolding run allows isLegal sizesFit predsFit guardHolds after writes vsetOf formOf selectedOf exactOf lanesOf laneHolds holdsZ
 not-by-register law =
     let z : _≡_ {A = ℕ} 1 0 = part-by byRegister law (group Byte S32 U32 false (fullMask Byte) (digits 7 2 1 0) (defaultB Byte)) (words 0 0xFF000000 0) refl (record { sizes = refl; bits = refl }) refl 3 (omega arith) refl in
     omega arith
@@ -283,7 +286,7 @@ ownParts l i form = record {
 
 -- lane 0 of vset4.u32.u32.lt %r3, %r0, %r1.b7650, %r2; is 0, and vset.u32.u32.lt %r4, %r0.b0, %r1.b0; gives 1
 pub not-own-parts : LaneIsVset ownParts → ⊥
-unfolding run isLegal sizesFit predsFit guardHolds after writes vsetOf formOf selectedOf exactOf lanesOf laneHolds holdsZ
+unfolding run allows isLegal sizesFit predsFit guardHolds after writes vsetOf formOf selectedOf exactOf lanesOf laneHolds holdsZ
 not-own-parts law =
     let z : _≡_ {A = ℕ} 0 1 = part-by ownParts law (group Byte U32 U32 false (fullMask Byte) (defaultA Byte) (digits 7 6 5 0)) (words 1 2 0) refl (record { sizes = refl; bits = refl }) refl 0 (omega arith) refl in
     omega arith
@@ -300,7 +303,7 @@ leftmostFirst l i form = record {
 
 -- lane 0 of vset4.u32.u32.lt %r3, %r0.b0123, %r1, %r2; is 0, and vset.u32.u32.lt %r4, %r0.b0, %r1.b3; gives 1
 pub not-leftmost-first : LaneIsVset leftmostFirst → ⊥
-unfolding run isLegal sizesFit predsFit guardHolds after writes vsetOf formOf selectedOf exactOf lanesOf laneHolds holdsZ
+unfolding run allows isLegal sizesFit predsFit guardHolds after writes vsetOf formOf selectedOf exactOf lanesOf laneHolds holdsZ
 not-leftmost-first law =
     let z : _≡_ {A = ℕ} 0 1 = part-by leftmostFirst law (group Byte U32 U32 false (fullMask Byte) (digits 0 1 2 3) (defaultB Byte)) (words 0x05000001 0x02000002 0) refl (record { sizes = refl; bits = refl }) refl 0 (omega arith) refl in
     omega arith

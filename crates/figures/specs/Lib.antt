@@ -3,3 +3,4 @@ pub mod Lines
 pub mod Answered
 pub mod LaneFigures
 pub mod Printed
+pub mod CardFigures

@@ -109,6 +109,16 @@ halfSelp = record { guard = When (plain 1); instruction = Selp (record { dtype =
 abbrev pub halfSet : Record
 halfSet = always (Set SetType.U32 (r 1) (record { cmp = CmpOp.Six Gt; combination = Alone; ftz = false; stype = DataType.S16; a = rs 5; b = rs 0 }))
 
+-- T-07: read at old targets
+abbrev pub doubleSet : Record
+doubleSet = always (Set SetType.U32 (r 1) (record { cmp = CmpOp.Six Lt; combination = Alone; ftz = false; stype = DataType.F64; a = rd 2; b = rd 3 }))
+
+abbrev pub bitsSelp : Record
+bitsSelp = always (Selp (record { dtype = DataType.B64; d = rd 1; a = rd 2; b = rd 3 }) (p 1))
+
+abbrev pub flushedSlct : Record
+flushedSlct = always (Slct (SlctType.F32 true) (record { dtype = DataType.F32; d = w 1; a = w 2; b = w 3 }) (r 4))
+
 -- ---- the lines
 
 unfoldable pub lines : List Standing
@@ -211,8 +221,7 @@ lines =
     ∷ is (always (Setp (One (p 4)) (record { cmp = CmpOp.Six Lt; combination = Alone; ftz = false; stype = DataType.F64; a = rd 1; b = rd 2 })))
     (bytes "setp.lt.f64 %p4, %rd1, %rd2;")
     ∷ is (always (Slct SlctType.S32 (record { dtype = DataType.B64; d = rd 1; a = rd 2; b = rd 3 }) (r 4))) (bytes "slct.b64.s32 %rd1, %rd2, %rd3, %r4;")
-    ∷ is (always (Slct (SlctType.F32 true) (record { dtype = DataType.F32; d = w 1; a = w 2; b = w 3 }) (r 4)))
-    (bytes "slct.ftz.f32.f32 %r1, %r2, %r3, %r4;")
+    ∷ is flushedSlct (bytes "slct.ftz.f32.f32 %r1, %r2, %r3, %r4;")
     -- T-06
     ∷ is
     (always
@@ -225,6 +234,8 @@ lines =
     (bytes "slct.ftz.b16.f32 %rs1, %rs2, %rs3, %r4;")
     ∷ is halfSelp (bytes "@%p1 selp.b16 %rs5, %rs31, %rs2, %p1;")
     ∷ is halfSet (bytes "set.gt.u32.s16 %r1, %rs5, %rs0;")
+    ∷ is doubleSet (bytes "set.lt.u32.f64 %r1, %rd2, %rd3;")
+    ∷ is bitsSelp (bytes "selp.b64 %rd1, %rd2, %rd3, %p1;")
     ∷ []
 
 -- each record's standard line is the text that stands beside it
