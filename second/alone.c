@@ -1,14 +1,15 @@
 /*
  * The listing program of the PTX line bench, worked out from document 01 and
- * requests T-01, T-02, T-05 and T-06.
+ * requests T-01, T-02, T-05, T-06 and T-07.
  *
  * It reads a listing from standard input, reads each line into a record,
  * executes the record, and writes one answer per line and, at the end, the
  * registers that differ from their start value.
  *
- *   alone             the listing program
+ *   alone [NAME]      the listing program, at the target of that name, sm_30 if none is given
  *   alone --probe     executes lines one by one, on registers of one's choice
  *   alone --samples   answers the data lines of SAMPLES.md
+ * `--target NAME` may stand for NAME, and in front of `--probe`.
  *
  * Build:  cc -std=c11 -O2 -Wall -Wextra -Werror alone.c -o alone
  *   -DRAW_IO  uses read and write of <unistd.h> in place of <stdio.h>
@@ -105,8 +106,12 @@ typedef enum {
     NOT_LEGAL = 8,
     SHORT_BUFFER = 9,
     BAD_LENGTHS = 10,
-    BAD_PREDICATE = 11
+    BAD_PREDICATE = 11,
+    TOO_OLD = 12
 } Refusal;
+
+/* The targets, the oldest first. */
+typedef enum { SM_10, SM_13, SM_20, SM_30, TARGETS } Target;
 
 /* ------------------------------------------------------------------------
  * Words: the names that may stand in a head.  Words of one class stand
@@ -507,6 +512,19 @@ typedef struct {
     unsigned asel[4], bsel[4];  /* part number of each lane, lane 0 first */
 } Record;
 
+/* The oldest target that allows the record. */
+static Target needed_target(const Record *rec)
+{
+    switch (rec->op) {
+    case W_SET: case W_SETP:
+        return rec->atype == W_F64 ? SM_13 : SM_10;
+    case W_SELP: case W_SLCT:
+        return rec->dtype == W_F64 ? SM_13 : SM_10;
+    default:        /* video */
+        return is_simd(rec->op) ? SM_30 : SM_20;
+    }
+}
+
 /* What may stand last in a video head: by lanes there is `add` alone. */
 static bool is_second(Word op, Word w)
 {
@@ -776,7 +794,7 @@ static bool numbers_fit(const Line *line)
 }
 
 /* The number of the refusal, ACCEPTED if there is none. */
-static Refusal judge_line(const Byte *p, size_t length, Line *line, Record *rec)
+static Refusal judge_line(const Byte *p, size_t length, Target target, Line *line, Record *rec)
 {
     if (length > LINE_MOST)
         return TOO_LONG;
@@ -795,6 +813,8 @@ static Refusal judge_line(const Byte *p, size_t length, Line *line, Record *rec)
         return BAD_NUMBER;
     if (rec->op == W_SETP && rec->q != DROPPED && rec->p == rec->q)
         return SAME_PLACES;
+    if (target < needed_target(rec))
+        return TOO_OLD;
     rec->guarded = line->guarded;
     if (line->guarded) {
         rec->guard = line->guard.number;
@@ -1199,13 +1219,13 @@ static bool has_place(Refusal refusal)
 }
 
 /*
- * Reads the line of `length` bytes at `p`.  When it is accepted, `line`
- * holds its texts, without default masks and selectors, and `rec` the record;
- * when it is refused with 2 to 7, `line` holds the place.
+ * Reads the line of `length` bytes at `p`, for a target.  When it is accepted,
+ * `line` holds its texts, without default masks and selectors, and `rec` the
+ * record; when it is refused with 2 to 7, `line` holds the place.
  */
-static Refusal read_line(const Byte *p, size_t length, Line *line, Record *rec)
+static Refusal read_line(const Byte *p, size_t length, Target target, Line *line, Record *rec)
 {
-    Refusal refusal = judge_line(p, length, line, rec);
+    Refusal refusal = judge_line(p, length, target, line, rec);
     line->place = place_of(refusal, p, length, line, rec);
     return refusal;
 }
@@ -1293,6 +1313,12 @@ static unsigned order_float(uint64_t x, uint64_t y, uint64_t sign, uint64_t infi
 static uint32_t flush(uint32_t x)
 {
     return (x & UINT32_C(0x7F800000)) == 0 ? x & UINT32_C(0x80000000) : x;
+}
+
+/* Whether compared values of the type are flushed: singles alone, and without `ftz` at the two oldest targets alone. */
+static bool flushes(const Record *rec, Word type, Target target)
+{
+    return type == W_F32 && (rec->ftz || target < SM_20);
 }
 
 /* The low `width` bits of x (8, 16 or 32; none above) as an exact number. */
@@ -1394,7 +1420,7 @@ static uint32_t simd_video(const Record *rec, uint32_t a, uint32_t b, uint32_t c
 }
 
 /* t of set and setp. */
-static bool comparison(const Machine *m, const Record *rec)
+static bool comparison(const Machine *m, const Record *rec, Target target)
 {
     const uint64_t sign64 = UINT64_C(1) << 63;
     unsigned order;
@@ -1414,7 +1440,7 @@ static bool comparison(const Machine *m, const Record *rec)
     } else {
         uint32_t x = m->r[rec->a];
         uint32_t y = m->r[rec->b];
-        if (rec->ftz) {
+        if (flushes(rec, rec->atype, target)) {
             x = flush(x);
             y = flush(y);
         }
@@ -1448,15 +1474,15 @@ static bool at_or_above_zero(uint32_t c, Word type, bool ftz)
     return size <= UINT32_C(0x7F800000) && (!negative || size == 0);
 }
 
-/* Executes the record; false if its guard skips it. */
-static bool execute(Machine *m, const Record *rec)
+/* Executes the record, which the target allows; false if its guard skips it. */
+static bool execute(Machine *m, const Record *rec, Target target)
 {
     if (rec->guarded && (m->p[rec->guard] != 0) == rec->guard_negated)
         return false;
 
     switch (rec->op) {
     case W_SET: case W_SETP: {
-        bool t = comparison(m, rec);
+        bool t = comparison(m, rec, target);
         bool c = rec->second != W_NONE && (m->p[rec->c] != 0) != rec->c_negated;
         bool first = bool_op(rec->second, t, c);
         bool second = bool_op(rec->second, !t, c);
@@ -1474,7 +1500,7 @@ static bool execute(Machine *m, const Record *rec)
 
     case W_SELP: case W_SLCT: {
         bool pick_a = rec->op == W_SELP ? m->p[rec->c] == 1
-                                        : at_or_above_zero(m->r[rec->c], rec->btype, rec->ftz);
+                                        : at_or_above_zero(m->r[rec->c], rec->btype, flushes(rec, rec->btype, target));
         unsigned from = pick_a ? rec->a : rec->b;
         switch (file_of(rec->dtype)) {
         case FILE_RS: m->rs[rec->d] = m->rs[from]; break;
@@ -1610,21 +1636,21 @@ static void put_changed_registers(const Machine *m)
  * The listing
  * ------------------------------------------------------------------------ */
 
-static void run_listing(const Byte *p, const Byte *end, Machine *m)
+static void run_listing(const Byte *p, const Byte *end, Target target, Machine *m)
 {
     Line line;
     Record rec;
 
     for (unsigned number = 1; p < end; number++) {
         const Byte *feed = memchr(p, '\n', (size_t)(end - p) + 1);
-        Refusal refusal = read_line(p, (size_t)(feed - p), &line, &rec);
+        Refusal refusal = read_line(p, (size_t)(feed - p), target, &line, &rec);
         begin_line();
         put_decimal(number);
         if (refusal != ACCEPTED) {
             put_byte(' ');
             put_refusal(refusal, &line);
         } else {
-            put_string(execute(m, &rec) ? " done " : " skipped ");
+            put_string(execute(m, &rec, target) ? " done " : " skipped ");
             put_standard_line(&line);
         }
         put_byte('\n');
@@ -1632,7 +1658,7 @@ static void run_listing(const Byte *p, const Byte *end, Machine *m)
     }
 }
 
-static int listing_program(void)
+static int listing_program(Target target)
 {
     static Byte input[INPUT_MOST + 1];
     static Machine machine;
@@ -1647,7 +1673,7 @@ static int listing_program(void)
 
     fill_dictionary();
     start_machine(&machine);
-    run_listing(input, input + length, &machine);
+    run_listing(input, input + length, target, &machine);
     put_changed_registers(&machine);
     flush_output();
     return 0;
@@ -1657,10 +1683,23 @@ static int listing_program(void)
 
 int main(void)
 {
-    return listing_program();
+    return listing_program(SM_30);
 }
 
 #else
+
+/* ------------------------------------------------------------------------
+ * The names of the targets, in data and as arguments
+ * ------------------------------------------------------------------------ */
+
+static bool read_target(const char *name, Target *target)
+{
+    static const char *const names[TARGETS] = { "sm_10", "sm_13", "sm_20", "sm_30" };
+    for (*target = SM_10; *target < TARGETS; ++*target)
+        if (strcmp(name, names[*target]) == 0)
+            return true;
+    return false;
+}
 
 /* ------------------------------------------------------------------------
  * The probe.  Registers are zero at the start.  `=%r5 7FC00000` sets one, `!`
@@ -1731,17 +1770,17 @@ static void put_destinations(const Machine *m, const Record *rec)
     }
 }
 
-static void put_probe_answer(const Byte *p, size_t length, Machine *m)
+static void put_probe_answer(const Byte *p, size_t length, Target target, Machine *m)
 {
     Line line;
     Record rec;
-    Refusal refusal = read_line(p, length, &line, &rec);
+    Refusal refusal = read_line(p, length, target, &line, &rec);
     if (refusal == ACCEPTED && has_byte_over_1(m->p))
         refusal = BAD_PREDICATE;
     if (refusal != ACCEPTED) {
         put_refusal(refusal, &line);
     } else {
-        bool done = execute(m, &rec);
+        bool done = execute(m, &rec, target);
         put_string(done ? "done " : "skipped ");
         put_standard_line(&line);
         if (done)
@@ -1763,7 +1802,7 @@ static bool next_line(Byte line[LINE_MOST + 2], size_t *length)
     return byte != EOF || *length > 0;
 }
 
-static int probe(void)
+static int probe(Target target)
 {
     static const Machine zero;
     Machine machine = zero;
@@ -1775,7 +1814,7 @@ static int probe(void)
         if (length == 1 && line[0] == '!')
             machine = zero;
         else if (!read_setting(line, &machine))
-            put_probe_answer(line, length, &machine);
+            put_probe_answer(line, length, target, &machine);
     }
     return 0;
 }
@@ -2354,6 +2393,7 @@ typedef struct {
 
 typedef struct {
     Files files;
+    Target target;
     unsigned opened;
     Place open[OPEN_MOST];
 } Setup;
@@ -2386,18 +2426,19 @@ static void set_place(Files *files, Place place, uint64_t value)
 
 typedef enum { RUN_DONE, RUN_SKIPPED, RUN_REFUSED } Run;
 
-static Run execute_record(const Sample *s, Files *files, Refusal *refusal)
+static Run execute_record(const Sample *s, Target target, Files *files, Refusal *refusal)
 {
     Machine m;
     for (int file = FILE_R; file < FILES; file++)
         for (unsigned n = 0; n < lent[file].places; n++)
             set_register(&m, (File)file, n, files->value[file][n]);
     *refusal = !legal(s) ? NOT_LEGAL
+             : target < needed_target(&s->rec) ? TOO_OLD
              : !usual_lengths(files) ? BAD_LENGTHS
              : has_byte_over_1(m.p) ? BAD_PREDICATE : ACCEPTED;
     if (*refusal != ACCEPTED)
         return RUN_REFUSED;
-    bool done = execute(&m, &s->rec);
+    bool done = execute(&m, &s->rec, target);
     for (int file = FILE_R; file < FILES; file++)
         for (unsigned n = 0; n < lent[file].places; n++)
             files->value[file][n] = value_at(&m, (File)file, n);
@@ -2417,11 +2458,11 @@ static void put_changed_places(const Files *before, const Files *after)
         }
 }
 
-static void put_run(const Sample *s, const Files *before)
+static void put_run(const Sample *s, Target target, const Files *before)
 {
     Files after = *before;
     Refusal refusal;
-    Run run = execute_record(s, &after, &refusal);
+    Run run = execute_record(s, target, &after, &refusal);
     put_byte((Byte)"+~-"[run]);
     if (run == RUN_REFUSED)
         put_decimal(refusal);
@@ -2442,7 +2483,7 @@ static void put_runs(const Sample *s, const Setup *setup)
             begin_line();
             if (column > 0)
                 put_byte(' ');
-            put_run(s, &files);
+            put_run(s, setup->target, &files);
         }
         put_byte('\n');
     }
@@ -2474,14 +2515,29 @@ static void take_length(File file, Setup *setup)
         bad_data("no length");
 }
 
+/* `T13`: the target is sm_13. */
+static void take_target(Setup *setup)
+{
+    char name[TOKEN_MOST + 3] = "sm_";
+    for (unsigned i = 1; token[i] != '\n'; i++)
+        name[i + 2] = (char)token[i];
+    if (!read_target(name, &setup->target))
+        bad_data("no target");
+}
+
 /* What follows the letter `X`. */
 static void take_setup(Setup *setup)
 {
     setup->opened = 0;
+    setup->target = SM_30;
     start_files(&setup->files);
     while (behind != '\n') {
         File file = FILE_R;
         take_token();
+        if (token[0] == 'T') {
+            take_target(setup);
+            continue;
+        }
         while (file < FILES && (token[0] | 0x20) != lent[file].letter)
             file++;
         if (file == FILES)
@@ -2534,13 +2590,21 @@ static int samples(void)
 
 int main(int argc, char **argv)
 {
-    if (argc == 1)
-        return listing_program();
-    if (argc == 2 && strcmp(argv[1], "--probe") == 0)
-        return probe();
-    if (argc == 2 && strcmp(argv[1], "--samples") == 0)
+    Target target = SM_30;
+    bool option = argc > 2 && strcmp(argv[1], "--target") == 0;
+    bool named = option || (argc == 2 && argv[1][0] != '-');
+    char **rest = argv + 1 + option + named;        /* what stands behind the name */
+    if (named && !read_target(rest[-1], &target)) {
+        fprintf(stderr, "alone: no target has the name %s\n", rest[-1]);
+        return 2;
+    }
+    if (rest[0] == NULL)
+        return listing_program(target);
+    if (rest[1] == NULL && strcmp(rest[0], "--probe") == 0)
+        return probe(target);
+    if (rest[1] == NULL && strcmp(rest[0], "--samples") == 0 && !named)
         return samples();
-    fputs("usage: alone [--probe | --samples]\n", stderr);
+    fputs("usage: alone [NAME | --target NAME | [--target NAME] --probe | --samples]\n", stderr);
     return 2;
 }
 

@@ -68,18 +68,25 @@ static void values(const uint64_t *value, unsigned count)
     value_count = count;
 }
 
+static bool every_target;                   /* runs are done at each target (request T-07), else at none that is named */
+
 /* Runs of the last record; `open` registers among the tokens go through the values. */
 static void run(unsigned open, const char *format, ...)
 {
-    va_list list;
-    va_start(list, format);
-    putchar('X');
-    if (*format != '\0')
-        putchar(' ');
-    vprintf(format, list);
-    va_end(list);
-    putchar('\n');
-    runs += open == 0 ? 1 : open == 1 ? value_count : value_count * value_count;
+    static const char *const targets[] = { "T10", "T13", "T20", "T30" };
+    for (unsigned i = 0; i < (every_target ? COUNT(targets) : 1); i++) {
+        va_list list;
+        va_start(list, format);
+        putchar('X');
+        if (every_target)
+            printf(" %s", targets[i]);
+        if (*format != '\0')
+            putchar(' ');
+        vprintf(format, list);
+        va_end(list);
+        putchar('\n');
+        runs += open == 0 ? 1 : open == 1 ? value_count : value_count * value_count;
+    }
 }
 
 /* A record that is looked at for its legality or its line is also executed on the start values. */
@@ -225,9 +232,17 @@ static const Base BASES[] = {
     { "2 4", "5 8 2 d 2 a 2 b c" },                         /* selp on halves, guarded */
     { "0 0", "6 0 10 2 d 2 a 2 b c" },                      /* slct on halves */
     { "0 0", "6 2 9 2 d 2 a 2 b c" },                       /* slct on halves with ftz */
+    { "0 0", "1 2 0 0 0 d 0 0 6 a 6 b" },                   /* vset alone */
+    { "0 0", "3 0 d 0 0 0 0 0 6 0 a 0 b" },                 /* set on singles */
+    { "0 0", "4 1 d 14 0 0 0 0 0 7 1 a 1 b" },              /* setp on doubles as numbers, with two places */
+    { "0 0", "5 6 0 d 0 a 0 b c" },                         /* selp of singles */
+    { "0 0", "5 7 1 d 1 a 1 b c" },                         /* selp of doubles as numbers */
+    { "0 0", "6 1 6 0 d 0 a 0 b c" },                       /* slct by a single */
+    { "2 4", "6 0 7 1 d 1 a 1 b c" },                       /* slct of doubles as numbers by a whole, guarded */
+    { "0 0", "7 2 0 0 0 0 0 0 d 3 a 0 1 0 0 b 2 3 0 0 c" }, /* vavrg2 */
 };
 
-enum { OLDER_BASES = 14, LANE_BASES = 17 };     /* those from the first on are of request T-01, from the second on of T-06 */
+enum { OLDER_BASES = 14, LANE_BASES = 17, HALF_BASES = 22 };    /* those from there on are of request T-01, T-06, T-07 */
 
 /* The base with its letters d, a, b, c changed to numbers. */
 static void base(const char *guarded, const Base *of, const unsigned dabc[4])
@@ -678,14 +693,14 @@ static void slct_runs(unsigned from, unsigned to, const uint64_t *value, unsigne
 }
 
 /* selp by type and value of c */
-static void selp_runs(unsigned from, unsigned to)
+static void selp_runs(unsigned from, unsigned to, const char *const between[])
 {
     values(BITS, COUNT(BITS));
     for (unsigned type = from; type < to; type++) {
         unsigned file = file_of(type);
         begin("0 0 5 %u %u 3 %u 0 %u 1 0", type, file, file, file);
         end();
-        run_choice(type, AS_AND_BS, "p0");
+        run_choice(type, between, "p0");
     }
 }
 
@@ -1057,7 +1072,7 @@ static void same_halves(void)
     static const unsigned dabc[][4] = {
         { 1, 1, 2, 3 }, { 1, 2, 1, 3 }, { 1, 2, 3, 1 }, { 1, 1, 1, 2 }, { 1, 1, 1, 1 }, { 2, 1, 1, 1 }
     };
-    for (unsigned of = LANE_BASES; of < COUNT(BASES); of++)
+    for (unsigned of = LANE_BASES; of < HALF_BASES; of++)
         for (unsigned i = 0; i < COUNT(dabc); i++) {
             base("0 0", &BASES[of], dabc[i]);
             run(0, "");
@@ -1074,13 +1089,153 @@ static void half_files(void)
         "H31 p2=2", "H33 p15=FF", "H32 p15=2", "H0 p0=2", "h31=FFFF", "h32=FFFF", "H33 h32=FFFF", "D31 h31=1"
     };
     static const char *const guarded[] = { "0 0", "1 6", "2 6", "1 16" };
-    for (unsigned of = 0; of < COUNT(BASES); of++)
+    for (unsigned of = 0; of < HALF_BASES; of++)
         for (unsigned i = 0; i < COUNT(guarded) + 1; i++) {
             const unsigned dabc[4] = { 3, i < COUNT(guarded) ? 5 : 64, 1, 2 };
             base(guarded[i % COUNT(guarded)], &BASES[of], dabc);
             for (unsigned k = 0; k < COUNT(wrong); k++)
                 run(0, "%s", wrong[k]);
         }
+}
+
+/* ---- request T-07: what is of no other record; every run is at each target ---- */
+
+/* Of each width: zeros, least and greatest subnormals, least normals, one, a NaN; also doubles that would be subnormal singles, and words of theirs that are. */
+enum { TINY = 10 };
+static const uint64_t TINY_OF[3][TINY] = {
+    { 0, 0x80000000, 1, 0x80000001, 0x007FFFFF, 0x807FFFFF, 0x00800000, 0x80800000, 0x3F800000, 0x7FC00000 },
+    { 0, 0x8000000000000000, 1, 0x8000000000000001, 0x000FFFFFFFFFFFFF, 0x800FFFFFFFFFFFFF, 0x0010000000000000, 0x36A0000000000000, 0x807FFFFF00000001, 0x7FF8000000000000 },
+    { 0, 0x8000, 1, 0x8001, 0x007F, 0x03FF, 0x83FF, 0x0400, 0x3C00, 0x7E00 },
+};
+
+/* set and setp of a type by comparison, legal or not, all of its types; f32 and f64 also with ftz; then the choices */
+static void comparisons_and_choices(void)
+{
+    for (unsigned setp = 0; setp < 2; setp++) {
+        for (unsigned type = 0; type < ALL_TYPES; type++)
+            written_comparisons_of(setp, 0, type);
+        written_comparisons_of(setp, 1, F32);
+        written_comparisons_of(setp, 1, F32 + 1);
+    }
+    written_choices(0, ALL_TYPES);
+}
+
+/* heads of request T-01, each operation in either width; registers and selectors in turn */
+static void some_heads(void)
+{
+    for (unsigned at = 0; at < HEADS; at += 5) {
+        unsigned lanes = lanes_of_head(at);
+        arithmetic_head(guard(), at);
+        usual_lanes(lanes, 1 + turn % ((1u << lanes) - 1), 0, lanes);
+        run(0, "");
+    }
+}
+
+/* every base, also not legal, under each guard, on wrong files: 8, 12, 10, 11, then the guard */
+static void order_of_refusals(void)
+{
+    static const char *const wrong[] = { "R63", "H33", "D31", "P17", "p6=2", "R65 p2=FF" };
+    static const char *const guarded[] = { "0 0", "1 6", "2 6", "1 16" };
+    for (unsigned of = 0; of < COUNT(BASES); of++)
+        for (unsigned i = 0; i < COUNT(guarded) + 1; i++) {
+            const unsigned dabc[4] = { 3, i < COUNT(guarded) ? 5 : 64, 1, 2 };
+            base(guarded[i % COUNT(guarded)], &BASES[of], dabc);
+            run(0, "");
+            for (unsigned k = 0; k < COUNT(wrong); k++)
+                run(0, "%s", wrong[k]);
+        }
+}
+
+static void compared(bool setp, unsigned dtype, unsigned cmp, unsigned bools, unsigned ftz, unsigned type)
+{
+    if (setp)
+        begin("0 0 4 %u 1 %u %u", dtype, dtype == 1 ? 2 : 0, cmp);      /* dtype is the form */
+    else
+        begin("0 0 3 %u 3 %u", dtype, cmp);
+    boolean(bools, 0);
+    usual_sources(ftz, type);
+    end();
+}
+
+/* Runs of set or setp in which a goes through the values beside some of b, and b beside some of a. */
+static void run_beside(unsigned type)
+{
+    static const char *const beside[3][2] = { { "80000000", "1" }, { "0", "1" }, { "0", "1" } };
+    char file = letter_of(type);
+    run(1, "%c0 %c1=%s r3=0", file, file, beside[file_of(type)][0]);
+    run(1, "%c0=%s %c1 r3=0", file, beside[file_of(type)][1], file);
+}
+
+/* by comparison: set and setp on all pairs of singles, with ftz setp alone; on all pairs of doubles setp */
+static void tiny_pairs(void)
+{
+    for (unsigned type = F32; type <= F32 + 1; type++) {
+        char file = letter_of(type);
+        values(TINY_OF[file_of(type)], TINY);
+        for (unsigned cmp = 0; cmp < CMPS; cmp++) {
+            if (!compares(cmp, type))
+                continue;
+            compared(true, 0, cmp, 0, 0, type);
+            run(2, "%c0 %c1", file, file);
+            if (type != F32)
+                continue;
+            compared(false, 0, cmp, 0, 0, type);
+            run(2, "r0 r1 r3=0");
+            compared(true, 0, cmp, 0, 1, type);
+            run(2, "r0 r1");
+        }
+    }
+}
+
+/* set by comparison, dtype and every stype, with ftz too */
+static void tiny_truths(void)
+{
+    for (unsigned type = 0; type < ALL_TYPES; type++) {
+        values(TINY_OF[file_of(type)], TINY);
+        for (unsigned cmp = 0; cmp < CMPS; cmp++)
+            for (unsigned ftz = 0; ftz < 2; ftz++)
+                for (unsigned dtype = type == F32 ? 0 : 2; dtype < 3; dtype++) {
+                    if (!compares(cmp, type) || (ftz == 1 && type != F32))
+                        continue;
+                    compared(false, dtype, cmp, 0, ftz, type);
+                    run_beside(type);
+                }
+    }
+}
+
+/* BoolOps on a comparison that flushing turns: set by dtype, setp into two places, which hold either value before */
+static void tiny_booleans(void)
+{
+    values(BITS, COUNT(BITS));
+    for (unsigned bools = 0; bools < BOOLS; bools++) {
+        for (unsigned dtype = 0; dtype < 3; dtype++) {
+            compared(false, dtype, 0, bools, 0, F32);
+            run(1, "r0=80000001 r1=0 p0");
+        }
+        compared(true, 1, 0, bools, 0, F32);
+        run(1, "r0=80000001 r1=0 p0");
+        run(1, "r0=80000001 r1=0 p1=1 p2=1 p0");
+    }
+}
+
+/* each bit of a single, and each beside the sign, as a, b and c: set and setp against zero, slct, by ftz */
+static void tiny_bits(void)
+{
+    for (unsigned sign = 0; sign < 2; sign++) {
+        uint64_t bits[32];
+        for (unsigned i = 0; i < COUNT(bits); i++)
+            bits[i] = (uint64_t)sign << 31 | UINT64_C(1) << i;
+        values(bits, COUNT(bits));
+        for (unsigned ftz = 0; ftz < 2; ftz++) {
+            compared(false, 0, 0, 0, ftz, F32);
+            run(1, "r0 r1=0 r3=0");
+            compared(true, 0, 0, 0, ftz, F32);
+            run(1, "r0=80000000 r1");
+            begin("0 0 6 %u %u 0 3 0 0 0 1 2", 1 + ftz, F32);
+            end();
+            run(1, "r0=1 r1=2 r2");
+        }
+    }
 }
 
 /* ---- all of it ---- */
@@ -1121,7 +1276,7 @@ static void executed(void)
     vset_runs();
     lane_runs();
     slct_runs(0, TYPES, WORDS, VALUES, AS_AND_BS);
-    selp_runs(0, TYPES);
+    selp_runs(0, TYPES, AS_AND_BS);
     guards(0, OLDER_BASES);
     set_guards();
     same_registers(0, OLDER_BASES);
@@ -1174,7 +1329,7 @@ static void half_size(void)
     legality_of_comparisons(B16, ALL_TYPES);
     halves_of_comparisons();
     halves_of_choices();
-    numbers(LANE_BASES, COUNT(BASES));
+    numbers(LANE_BASES, HALF_BASES);
     mixed_halves();
     section = WRITTEN;
     for (unsigned type = B16; type <= S16; type++) {
@@ -1189,11 +1344,36 @@ static void half_size(void)
     setp_places(S16);
     set_booleans(S16);
     slct_runs(B16, ALL_TYPES, AROUND_TINY, COUNT(AROUND_TINY), between);
-    selp_runs(B16, ALL_TYPES);
-    guards(LANE_BASES, COUNT(BASES));
+    selp_runs(B16, ALL_TYPES, AS_AND_BS);
+    guards(LANE_BASES, HALF_BASES);
     same_halves();
-    files(LANE_BASES, COUNT(BASES));
+    files(LANE_BASES, HALF_BASES);
     half_files();
+}
+
+/* request T-07, behind those of T-06 */
+static void old_cards(void)
+{
+    static const char *const subnormals[] = { "r0=80000001 r1=7FFFFF", "d0=8000000000000001 d1=FFFFFFFFFFFFF", "h0=8001 h1=3FF" };
+    every_target = true;
+    section = LEGALITY;
+    masks(false, 2);
+    masks(true, 2);
+    section = WRITTEN;
+    written_scalars();
+    written_vsets();
+    comparisons_and_choices();
+    section = EXECUTED;
+    some_heads();
+    order_of_refusals();
+    guards(0, COUNT(BASES));
+    tiny_pairs();
+    tiny_truths();
+    tiny_booleans();
+    tiny_bits();
+    slct_runs(0, ALL_TYPES, AROUND_TINY, COUNT(AROUND_TINY), subnormals);
+    slct_c_twice();
+    selp_runs(0, ALL_TYPES, subnormals);
 }
 
 int main(int argc, char **argv)
@@ -1209,6 +1389,7 @@ int main(int argc, char **argv)
     arithmetic_by_lanes();
     tiny_negatives();
     half_size();
+    old_cards();
     if (fflush(stdout) != 0 || ferror(stdout))
         return 1;
     if (count)

@@ -1,6 +1,7 @@
 /*
  * coverage TALLY LISTING..: adds to the file TALLY how often each kind of line and of operand value stands in the listings.
  * coverage TALLY: prints for each group of kinds how many occurred, and which never did; status 1 if one never did.
+ * --target NAME in front of either: the kinds that matter at this target (request T-07), with the listings worked at it.
  *
  * Kinds are counted by the reader and the registers of alone.c, which is taken in as it stands: where it
  * misreads a line the comparison of answers differs, so the count needs no reader of its own.
@@ -1448,7 +1449,7 @@ static void count_byte_too_many(const Byte *p, size_t length)
         memcpy(copy, p, i);
         memcpy(copy + i, p + i + 1, length - i - 1);
         copy[length - 1] = '\n';
-        if (judge_line(copy, length - 1, &line, &rec) == ACCEPTED) {
+        if (judge_line(copy, length - 1, SM_30, &line, &rec) == ACCEPTED) {
             hit("one byte too many: %02X", p[i]);
             return;
         }
@@ -1728,7 +1729,215 @@ static void count_blanks(const Byte *p, size_t length)
         hit("blank: none behind a comma");
 }
 
-static void count_listing(const char *name)
+/* ---- request T-07: what has to occur at a target, and what does ---- */
+
+static const char *const target_names[TARGETS] = { "sm_10", "sm_13", "sm_20", "sm_30" };
+
+/* The oldest target that allows a head, by its text and so not by alone's rule: "f64 types need sm_13, scalar video sm_20, forms with 2 or 4 sm_30". */
+static Target needed_by_text(const char *head, size_t length)
+{
+    size_t name = 0;
+    while (name < length && head[name] != '.')
+        name++;
+    if (head[0] == 'v')
+        return name > 1 && (head[name - 1] == '2' || head[name - 1] == '4') ? SM_30 : SM_20;
+    for (size_t i = name; i + 4 <= length; i++)
+        if (memcmp(head + i, ".f64", 4) == 0)
+            return SM_13;
+    return SM_10;
+}
+
+/* The words, doubles and halves of a listing that this target brings about: singles without order come from FFFFFFFF, doubles are 0 to 31 as bits. */
+static bool has_no_order(Word stype) { return stype == W_F32; }
+
+/* What is refused with 12 at the target, by opcode and, where only that is too new, f64. */
+static const char *new_name(int op) { return op >= W_SET ? ".f64" : ""; }
+static bool is_new(int op, Target target) { return target < (op >= W_SET ? SM_13 : is_simd((Word)op) ? SM_30 : SM_20); }
+
+static void declare_new(Target target)
+{
+    for (int op = W_VADD; op <= W_SLCT; op++) {
+        if (!is_new(op, target))
+            continue;
+        for (int n = 1; n <= 7; n++)
+            if (n != 7 || op == W_SETP)
+                kind("before 12: %d %s%s", n, spelling[op], new_name(op));
+        kind("12: %s%s, no guard", spelling[op], new_name(op));
+        kind("12: %s%s, its guard true", spelling[op], new_name(op));
+        kind("12: %s%s, its guard false", spelling[op], new_name(op));
+    }
+}
+
+static void declare_orders(Target target)
+{
+    for (int stype = W_U32; stype <= W_S16; stype++) {
+        if (stype == W_F64 && target < SM_13)
+            continue;
+        for (int set = 0; set < 2; set++)
+            for (int cmp = W_EQ; cmp <= W_NAN; cmp++)
+                for (unsigned order = LESS; order <= UNORDERED && compares((Word)cmp, (Word)stype); order *= 2)
+                    if (order != UNORDERED || has_no_order((Word)stype))
+                        kind("order: %s %s %s %s", set ? "set" : "setp", spelling[cmp], spelling[stype], order_name(order));
+        for (int a = 0; a < 2; a++) {
+            kind("choice: selp %s %s", spelling[stype], a ? "a" : "b");
+            for (int c = 0; c < 3; c++)
+                kind("choice: slct%s %s %s %s", c == 2 ? ".ftz" : "", spelling[stype], c == 0 ? "s32" : "f32", a ? "a" : "b");
+        }
+    }
+}
+
+/* Where flushing, or not, turns what comes of it. No listing at sm_10 or sm_13 has a subnormal single. */
+static void declare_turned(Target target)
+{
+    if (target < SM_20)
+        return;
+    for (int ftz = 0; ftz < 2; ftz++) {
+        for (int set = 0; set < 2; set++)
+            for (int cmp = W_EQ; cmp <= W_NAN; cmp++)
+                if (compares((Word)cmp, W_F32) && cmp < W_NUM)
+                    kind("turned: %s %s%s", set ? "set" : "setp", spelling[cmp], ftz ? " ftz" : "");
+        for (int type = W_U32; type <= W_S16; type++)
+            kind("turned: slct %s%s", spelling[type], ftz ? " ftz" : "");
+    }
+}
+
+static void declare_target(Target target)
+{
+    kind("answer: done");
+    kind("answer: skipped");
+    for (int n = 1; n <= 7; n++)
+        kind("answer: refused %d", n);
+    if (target < SM_30)
+        kind("answer: refused 12");
+    declare_heads();
+    for (int op = W_VSET2; op <= W_VMAX4; op++)
+        if (is_lane_arithmetic(op))
+            declare_lane_heads((Word)op);
+    for (int op = W_VADD; op <= W_SLCT; op++)
+        for (int taken = 0; taken < 2; taken++)
+            if (op >= W_SET || !is_new(op, target))
+                kind("guard: %s %s", spelling[op], taken ? "done" : "skipped");
+    declare_new(target);
+    declare_orders(target);
+    declare_turned(target);
+}
+
+/* The text of the head, whatever is wrong with the line; its length 0 if none begins there. */
+static Text head_text(const Byte *p)
+{
+    p = skip_blanks(p);
+    if (*p == '@')
+        while (*p != '\n' && !is_blank(*p))
+            p++;
+    p = skip_blanks(p);
+    Text head = { p, 0 };
+    while (is_name_byte(p[head.length]) || p[head.length] == '.')
+        head.length++;
+    return head;
+}
+
+/* The opcode that the head begins with, the longest; W_NONE if there is none. */
+static Word nearest_opcode(Text head)
+{
+    Word nearest = W_NONE;
+    for (int op = W_VADD; op <= W_SLCT; op++) {
+        size_t length = strlen(spelling[op]);
+        if (length <= head.length && memcmp(head.at, spelling[op], length) == 0 &&
+            (nearest == W_NONE || length > strlen(spelling[nearest])))
+            nearest = (Word)op;
+    }
+    return nearest;
+}
+
+/* One of 1 to 7 where 12 would stand without it, as far as the text of the head tells. */
+static void count_before_12(const Byte *p, Target target, Refusal refusal)
+{
+    Text head = head_text(p);
+    Word op = nearest_opcode(head);
+    if (op == W_NONE || !is_new(op, target) || (op >= W_SET && needed_by_text((const char *)head.at, head.length) <= target))
+        return;
+    if (refusal != SAME_PLACES || op == W_SETP)
+        hit("before 12: %d %s%s", refusal, spelling[op], new_name(op));
+}
+
+/* 12, with the guard looked at all the same; the line is read as sm_30 reads it. */
+static void count_too_old(const Machine *m, const Byte *p, size_t length)
+{
+    Line line;
+    Record rec;
+    if (read_line(p, length, SM_30, &line, &rec) != ACCEPTED)
+        stop("12 where another refusal stands", "alone.c");
+    hit("head: %.*s", (int)line.head.length, (const char *)line.head.at);
+    hit("12: %s%s, %s", spelling[rec.op], new_name(rec.op),
+        !rec.guarded ? "no guard" : (m->p[rec.guard] != 0) != rec.guard_negated ? "its guard true" : "its guard false");
+}
+
+static unsigned order_of(const Machine *m, Record rec, Target target)
+{
+    static const struct { unsigned order; Word cmp; } asked[] = { { LESS, W_LT }, { EQUAL, W_EQ }, { GREATER, W_GT } };
+    if (rec.atype == W_B16 || rec.atype == W_B32 || rec.atype == W_B64)
+        rec.atype = rec.atype == W_B16 ? W_U16 : rec.atype == W_B32 ? W_U32 : W_U64;
+    for EACH(i, asked) {
+        rec.cmp = asked[i].cmp;
+        if (comparison(m, &rec, target))
+            return asked[i].order;
+    }
+    return UNORDERED;
+}
+
+static void count_at_target(const Machine *m, const Line *line, const Record *rec, Target target)
+{
+    bool taken = !rec->guarded || (m->p[rec->guard] != 0) != rec->guard_negated;
+    hit("answer: %s", taken ? "done" : "skipped");
+    if (rec->guarded)
+        hit("guard: %s %s", spelling[rec->op], taken ? "done" : "skipped");
+    if (!taken)
+        return;
+    hit("head: %.*s", (int)line->head.length, (const char *)line->head.at);
+    if (rec->op < W_SET)
+        return;
+    Record other = *rec;
+    other.ftz = !rec->ftz;
+    const char *ftz = rec->ftz ? " ftz" : "";
+    if (rec->op == W_SET || rec->op == W_SETP) {
+        hit("order: %s %s %s %s", spelling[rec->op], spelling[rec->cmp], spelling[rec->atype], order_name(order_of(m, *rec, target)));
+        if (comparison(m, rec, target) != comparison(m, &other, target))
+            hit("turned: %s %s%s", spelling[rec->op], spelling[rec->cmp], ftz);
+        return;
+    }
+    uint64_t a = value_at(m, file_of(rec->dtype), rec->a), b = value_at(m, file_of(rec->dtype), rec->b);
+    if (a == b)
+        return;                 /* either choice writes the same */
+    if (rec->op == W_SELP) {
+        hit("choice: selp %s %s", spelling[rec->dtype], m->p[rec->c] == 1 ? "a" : "b");
+        return;
+    }
+    bool pick_a = at_or_above_zero(m->r[rec->c], rec->btype, flushes(rec, rec->btype, target));
+    hit("choice: slct%s %s %s %s", rec->ftz ? ".ftz" : "", spelling[rec->dtype], spelling[rec->btype], pick_a ? "a" : "b");
+    if (pick_a != at_or_above_zero(m->r[rec->c], rec->btype, flushes(&other, rec->btype, target)))
+        hit("turned: slct %s%s", spelling[rec->dtype], ftz);
+}
+
+/* Counts a line at a target; 12 has to stand exactly where the text of the head says so. */
+static void count_line_at(const Machine *m, const Byte *p, size_t length, const Line *line, const Record *rec, Refusal refusal, Target target)
+{
+    if (refusal == ACCEPTED || refusal == TOO_OLD) {
+        if ((refusal == TOO_OLD) != (needed_by_text((const char *)line->head.at, line->head.length) > target))
+            stop("12 is not by the definition", target_names[target]);
+    }
+    if (refusal == ACCEPTED) {
+        count_at_target(m, line, rec, target);
+        return;
+    }
+    hit("answer: refused %d", refusal);
+    if (refusal == TOO_OLD)
+        count_too_old(m, p, length);
+    else
+        count_before_12(p, target, refusal);
+}
+
+/* At a target, TARGETS for the kinds of sm_30 of the older requests. */
+static void count_listing(const char *name, Target at)
 {
     static Byte input[INPUT_MOST + 1];
     Machine m;
@@ -1741,6 +1950,7 @@ static void count_listing(const char *name)
         stop("too long", name);
     const Byte *p = input, *end = input + size;
     input[size] = '\n';
+    Target target = at == TARGETS ? SM_30 : at;
     start_machine(&m);
     while (p < end) {
         Line line;
@@ -1748,19 +1958,27 @@ static void count_listing(const char *name)
         memset(&rec, 0, sizeof rec);
         const Byte *feed = memchr(p, '\n', (size_t)(end - p) + 1);
         size_t length = (size_t)(feed - p);
-        Refusal refusal = read_line(p, length, &line, &rec);
+        Refusal refusal = read_line(p, length, target, &line, &rec);
+        if (at != TARGETS) {
+            count_line_at(&m, p, length, &line, &rec, refusal, target);
+            if (refusal == ACCEPTED)
+                execute(&m, &rec, target);
+            p = feed + 1;
+            continue;
+        }
         if (feed == end)
             hit("length: last line without line feed %s", refusal == ACCEPTED ? "accepted" : "refused");
         if (refusal == ACCEPTED) {
             count_accepted(&m, &line, &rec);
             count_blanks(p, length);
-            execute(&m, &rec);
+            execute(&m, &rec, target);
         } else {
             count_refused(p, length, &line, &rec, refusal);
         }
         p = feed + 1;
     }
-    count_held();
+    if (at == TARGETS)
+        count_held();
 }
 
 /* ---- the tally ---- */
@@ -1833,22 +2051,33 @@ static unsigned report(void)
 
 int main(int argc, char **argv)
 {
+    Target at = TARGETS;
+    if (argc > 2 && strcmp(argv[1], "--target") == 0) {
+        if (!read_target(argv[2], &at))
+            stop("no target", argv[2]);
+        argc -= 2;
+        argv += 2;
+    }
     if (argc < 2)
-        stop("usage", "coverage TALLY [LISTING..]");
+        stop("usage", "coverage [--target NAME] TALLY [LISTING..]");
     fill_dictionary();
-    declare_lines();
-    declare_heads();
-    declare_operands();
-    declare_values();
-    declare_lane_arithmetic();
-    declare_tiny_choices();
-    declare_halves();
-    declare_places();
+    if (at != TARGETS) {
+        declare_target(at);
+    } else {
+        declare_lines();
+        declare_heads();
+        declare_operands();
+        declare_values();
+        declare_lane_arithmetic();
+        declare_tiny_choices();
+        declare_halves();
+        declare_places();
+    }
     read_tally(argv[1]);
     if (argc == 2)
         return report() > 0;
     for (int i = 2; i < argc; i++)
-        count_listing(argv[i]);
+        count_listing(argv[i], at);
     write_tally(argv[1]);
     return 0;
 }

@@ -1,9 +1,11 @@
 // Reads the corpus on standard input, an answer, a tab and a line to each text line, and prints the entries whose answer is not the reader's own, with that, and
-// how many entries there were. A byte of a line may be written as \xHH.
+// how many entries there were. A byte of a line may be written as \xHH. An answer may have a target and a space in front; without one it is that of sm_30.
 use libc::STDIN_FILENO;
 use libc::STDOUT_FILENO;
 use read::Reading;
 use record::Record;
+use record::Target;
+use targets::Named;
 use write::Written;
 ghost use Prim.Native.Nat.{_≤_};
 ghost use lib.ListN.{length};
@@ -15,6 +17,9 @@ const INPUT: usize = 131072;
 const LINE: usize = 80;
 
 const ANSWER: usize = 83;
+
+// A target's name has so many bytes.
+const NAME: usize = 5;
 
 fn say(s: &[u8]) {
     io::write_all(STDOUT_FILENO, s);
@@ -87,8 +92,8 @@ fn put_placed(n: u8, place: usize, out: &mut [u8]) -> usize {
     text::put_decimal(out, next, place as u64)
 }
 
-fn put_answer(line: &[u8], out: &mut [u8]) -> usize {
-    match read::read(line) {
+fn put_answer(target: Target, line: &[u8], out: &mut [u8]) -> usize {
+    match read::read(target, line) {
         Reading::Record(r) => put_record(r, out),
         Reading::Refused(n) => text::put_decimal(out, 0, n as u64),
         Reading::RefusedAt(n, place) => put_placed(n, place, out),
@@ -140,14 +145,24 @@ fn judge(wanted: &[u8], got: &[u8], entry: &[u8]) {
     say(b"\n");
 }
 
-fn try_entry(entry: &[u8]) {
+// The answer at the target begins at `from`.
+fn try_at(target: Target, from: usize, entry: &[u8]) {
     let mut line = [0u8; 512];
     let mut answer = [0u8; ANSWER];
     let tab = next(entry, 0, b'\t');
     if tab < entry.len() {
         let n = decode(&entry[tab + 1..], &mut line);
-        let m = put_answer(first(&line, n), &mut answer);
-        judge(&entry[0..tab], first(&answer, m), entry);
+        let m = put_answer(target, first(&line, n), &mut answer);
+        if from <= tab {
+            judge(&entry[from..tab], first(&answer, m), entry);
+        }
+    }
+}
+
+fn try_entry(entry: &[u8]) {
+    match targets::target_of(first(entry, NAME)) {
+        Named::Is(target) => try_at(target, NAME + 1, entry),
+        Named::Unknown => try_at(Target::Sm30, 0, entry),
     }
 }
 

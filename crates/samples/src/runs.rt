@@ -10,9 +10,11 @@ use crate::records::record_of;
 use crate::say;
 use crate::say_byte;
 use execute::Executed;
+use record::Target;
 ghost use Prim.Native.Nat.{_≤_};
 
-// The files, one place more than usual, how many places of each are lent, how many registers are open, and the values of the next two.
+// The files, one place more than usual, how many places of each are lent, the target's number, how many registers are open, and the values of the next
+// two.
 struct Files {
     words: [u32; 65],
     halves: [u16; 33],
@@ -22,6 +24,7 @@ struct Files {
     half_count: usize,
     double_count: usize,
     pred_count: usize,
+    target: usize,
     open: usize,
     first: u64,
     second: u64,
@@ -37,7 +40,7 @@ const PREDS: usize = 17;
 
 // ---- the files before
 
-// A small letter is a place, a capital the number of places.
+// A small letter is a place, a capital the number of places or of the target.
 fn with_value(f: Files, letter: u8, n: usize, value: u64) -> Files {
     let mut next = f;
     match letter {
@@ -62,6 +65,9 @@ fn with_value(f: Files, letter: u8, n: usize, value: u64) -> Files {
         b'D' => {
             next.double_count = n;
         }
+        b'T' => {
+            next.target = n;
+        }
         _ => {
             next.pred_count = n;
         }
@@ -80,6 +86,7 @@ fn start(first: u64, second: u64) -> Files {
         half_count: 32,
         double_count: 32,
         pred_count: 16,
+        target: 30,
         open: 0,
         first: first,
         second: second,
@@ -168,6 +175,15 @@ fn print_changes(before: Files, after: Files, letter: u8, count: usize, digits: 
 
 // ---- runs
 
+fn target_numbered(n: usize) -> Target {
+    match n {
+        10 => Target::Sm10,
+        13 => Target::Sm13,
+        20 => Target::Sm20,
+        _ => Target::Sm30,
+    }
+}
+
 fn print_executed(e: Executed) {
     match e {
         Executed::Done => say_byte(b'+'),
@@ -190,6 +206,7 @@ struct Run {
 
 // Lends the first w words, h halves, d doubles and p predicates.
 fn executed(
+    target: Target,
     record: Fields,
     mut words: [u32; 65],
     mut halves: [u16; 33],
@@ -204,6 +221,7 @@ fn executed(
 {
     let r = record_of(record);
     let e = execute::execute(
+        target,
         r,
         &mut words[0..w],
         &mut halves[0..h],
@@ -225,6 +243,7 @@ fn answer_run(record: Fields, before: Files) {
     let doubles = before.doubles;
     let preds = before.preds;
     let r = executed(
+        target_numbered(before.target),
         record,
         words,
         halves,
