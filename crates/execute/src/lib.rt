@@ -437,10 +437,10 @@ pub fn execute(
 {
     let g = r.guard;
     let illegal = !legal::legal(r);
-    let too_old = !targets::allows(target, r);
+    let not_allowed = !targets::allows(target, r);
     let wrong_sizes = !sizes_fit(words, halves, doubles, preds);
     let wrong_preds = !preds_fit(preds);
-    let n = refusals::executing(illegal, too_old, wrong_sizes, wrong_preds);
+    let n = refusals::executing(illegal, not_allowed, wrong_sizes, wrong_preds);
     if n != 0 {
         return Executed::Refused(n);
     }

@@ -18,4 +18,4 @@ firstReading tooLong noShape noOpcode noRow noFit outOfFile samePair tooOld =
 
 -- Executing: 8, 10, 11, T-07: 12 straight after 8
 abbrev pub firstExecuting : Bool → Bool → Bool → Bool → ℕ
-firstExecuting illegal tooOld wrongSizes wrongPreds = cond illegal 8 (cond tooOld 12 (cond wrongSizes 10 (cond wrongPreds 11 0)))
+firstExecuting illegal notAllowed wrongSizes wrongPreds = cond illegal 8 (cond notAllowed 12 (cond wrongSizes 10 (cond wrongPreds 11 0)))

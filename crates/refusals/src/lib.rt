@@ -64,20 +64,17 @@ pub fn reading(
     if same_pair {
         return SAME_PAIR;
     }
-    if too_old {
-        return TOO_OLD;
-    }
-    NONE
+    if too_old { TOO_OLD } else { NONE }
 }
 
 // The first refusal of executing that applies, 0 where none does.
-pub fn executing(illegal: bool, too_old: bool, wrong_sizes: bool, wrong_preds: bool) -> u8
-    ensures { λ r. ⌜ r ≡ firstExecuting illegal «too_old» «wrong_sizes» «wrong_preds» ⌝ }
+pub fn executing(illegal: bool, not_allowed: bool, wrong_sizes: bool, wrong_preds: bool) -> u8
+    ensures { λ r. ⌜ r ≡ firstExecuting illegal «not_allowed» «wrong_sizes» «wrong_preds» ⌝ }
 {
     if illegal {
         return NOT_LEGAL;
     }
-    if too_old {
+    if not_allowed {
         return TOO_OLD;
     }
     if wrong_sizes {
