@@ -117,6 +117,7 @@ module _ (target : Target) (x : Record) (f : Files) (allowed : Allowed target x)
   pub destinations-hold : (w : Write) → Listed w (writes target (x .instruction) f) → at (run target x f .files) (w .place) ≡ w .value
   destinations-hold w e = runs.holds-written target x f allowed admitted guard w e
 
+  -- (SIMD lines are allowed at sm_30 alone, so of those below the laws of lanes say nothing but that)
   -- vset2 and vset4: masked lanes, those the mask names, get 1 or 0; other lanes keep c's part. With `add`, d is c plus the number of masked
   -- lanes that hold, modulo 2^32
   module _ (cmp : Cmp6) (l : Lanes) (is : x .instruction ≡ VsetLanes cmp l) where
@@ -357,5 +358,5 @@ written-then-read target x b c a n y w h allowed r = go (isLegal x) refl (ltb (l
         let z : written n ≡ written (length (standard x)) = sym h ∙ k .0 in
         let m : n ≡ length (standard x) = cc in
         let line : take n c ≡ standard x = rw (m, k .1) (take-at (standard x) _ _ refl) in
-        let k : Allowed target x = record { legal = e; allowed = allowed } in
-        r .related x (subst (λ (l : List ℕ). Relates l x) (sym line) (promises.accepted-related target (standard x) x (promises.standard-reads target x k) .0)) k
+        let there : Allowed target x = record { legal = e; allowed = allowed } in
+        r .related x (subst (λ (l : List ℕ). Relates l x) (sym line) (promises.accepted-related target (standard x) x (promises.standard-reads target x there) .0)) there

@@ -1,4 +1,4 @@
--- What each answer of `execute` says in document 01's words and numbers.
+-- What each answer of `execute` says in the documents' words and numbers.
 use mathlib.Core.Path.{_≡_, refl}
 use Rattle.rules.specs.Executing.{Answer, done, skipped, refused}
 use Rattle.execute.specs.declared.Executed.{Executed}

@@ -31,7 +31,7 @@ ghost use Rattle.rules.specs.Executing.{selectedWord, formC, formD, conditionHo
 ghost use Rattle.execute.specs.Answers.{answerOf};
 ghost use Rattle.execute.specs.Mirror.{operandIn, testIn, operandWrite, arithmeticWrite, vsetWrite, lanesWrite, arithmeticLanesWrite, setWrite, setpWrite, eitherOf, selpWrite, slctWrite, writeOf, predsWith, written};
 
-// Done, skipped (guard false), or refused with document 01's number.
+// Done, skipped (guard false), or refused with the documents' number.
 pub enum Executed {
     Done,
     Skipped,

@@ -179,7 +179,9 @@ answered =
     ∷ at Sm10 (bytes "vset4.u32.u32.lt %r10, %r1, %r2, %r0") (refused-at 2 36)
     ∷ at Sm10 (bytes "vavrg.u32.u32.u32 %r1, %r2, %r3;") (refused-at 3 0)
     ∷ at Sm10 (bytes "selp.f64.u32 %rd1, %rd2, %rd3, %p1;") (refused-at 4 9)
+    ∷ at Sm10 (bytes "set.eq.ftz.u32.f64 %r1, %rd2, %rd3;") (refused-at 4 15)
     ∷ at Sm10 (bytes "vset4.u32.u32.lt %r10.b01, %r1, %r2, %r0;") (refused-at 5 17)
+    ∷ at Sm10 (bytes "selp.f64 %r1, %rd2, %rd3, %p1;") (refused-at 5 9)
     ∷ at Sm10 (bytes "setp.lt.f64 %p1|%p1, %rd32, %rd3;") (refused-at 6 21)
     ∷ at Sm10 (bytes "setp.lt.f64 %p1|%p1, %rd2, %rd3;") (refused-at 7 16)
     ∷ []

@@ -18,7 +18,6 @@ use Rattle.record.specs.declared.SetType.{SetType}
 use Rattle.record.specs.declared.SlctType
 use Rattle.record.specs.declared.SlctType.{SlctType}
 use Rattle.record.specs.declared.Cmp6.the-variants.{Eq, Lt}
-use Rattle.record.specs.declared.CmpOp.{CmpOp}
 use Rattle.record.specs.declared.CmpOp.the-variants.{Six}
 use Rattle.record.specs.declared.Combination.the-variants.{Alone}
 use Rattle.record.specs.declared.Guard.the-variants.{When}
@@ -37,7 +36,7 @@ use Rattle.rules.specs.Numbers.{exactOf, holdsZ}
 use Rattle.rules.specs.Execution.{selectedOf, formOf, arithmeticOf, vsetOf, lanesOf, laneHolds, laneResult, arithmeticLanesOf, valueOf, comparisonOf, notBelowZero}
 use Rattle.rules.specs.StandardLine.{standard}
 use Rattle.rules.specs.Targets.{allows}
-use Rattle.rules.specs.Executing.{Answer, done, skipped, refused, combinedOf, testOf, writes, after, sizesFit, predsFit, guardHolds, run}
+use Rattle.rules.specs.Executing.{done, skipped, refused, combinedOf, testOf, writes, after, sizesFit, predsFit, guardHolds, run}
 use Rattle.figures.specs.Figures.{Figure, always, r, p, four, three, lent, gives, leaves, answers, doubled, picksA, picksB, setRecord, slctRecord, vsetRecord, allOf, scalarRecord, vsetWordRecord, said, given}
 
 -- the figure at another target
@@ -79,7 +78,7 @@ slctDoubles ctype t = always (Slct ctype (record { dtype = t; d = rd 3; a = rd 0
 abbrev selpSingles : Record
 selpSingles = always (Selp (record { dtype = DataType.F32; d = Operand.Word (r 3); a = Operand.Word (r 0); b = Operand.Word (r 1) }) (p 0))
 
--- vset4 that writes a register past the file, and under a guard
+-- vset4, a line under a guard, and a vadd into `%rn`
 abbrev vsetLanes : Record
 vsetLanes = vsetRecord Byte U32 Lt false (fullMask Byte) (defaultA Byte)
 
@@ -91,7 +90,7 @@ plainVadd n = scalarRecord Vadd U32 false U32 U32 (Plain (r n))
 
 -- ---- the files
 
--- a word is 0 but for the first three, and one predicate is over 1
+-- files that are admitted, files with a word too few, and with a predicate over 1
 abbrev right : Files
 right = lent (four 1 2 3 4) (three 0 0 0)
 
@@ -152,13 +151,15 @@ cards =
     ∷ at Sm13 (gives "set.eq.s32.f32 %r3, %r0, %r1;" (setRecord (Six Eq) false SetType.S32) 0x807FFFFF 0 0 0xFFFFFFFF)
     ∷ at Sm10 (gives "set.eq.u32.f32 %r3, %r0, %r1;" (setRecord (Six Eq) false SetType.U32) 0x00800000 0 0 0)
     ∷ at Sm10 (gives "set.eq.f32.u32 %r3, %r0, %r1;" (setOfType SetType.F32 DataType.U32) least 0 0 0)
-    ∷ at Sm10 (gives "set.eq.f32.b32 %r3, %r0, %r1;" (setOfType SetType.F32 DataType.B32) least minusZero 0 0)
+    ∷ at Sm10 (gives "set.eq.f32.b32 %r3, %r0, %r1;" (setOfType SetType.F32 DataType.B32) least 0 0 0)
     ∷ at Sm13 (picksB slctPlain (slctRecord false) 0x80800000)
     -- c of slct with s32, f64 and what selp copies are not flushed either
     ∷ at Sm10
     (picksB "slct.f32.s32 %r3, %r0, %r1, %r2;"
-    (always (Slct SlctType.S32 (record { dtype = DataType.F32; d = Operand.Word (r 3); a = Operand.Word (r 0); b = Operand.Word (r 1) }) (r 2))) minusLeast)
+    (always (Slct SlctType.S32 (record { dtype = DataType.F32; d = Operand.Word (r 3); a = Operand.Word (r 0); b = Operand.Word (r 1) }) (r 2))) minusZero)
     ∷ at Sm10 (picksB "selp.f32 %r3, %r0, %r1, %p0;" selpSingles 0)
+    ∷ at Sm10
+    (turns "selp.f32 %r3, %r0, %r1, %p0;" selpSingles (lent (four minusLeast least 0 5) (three 1 0 0)) (lent (four minusLeast least 0 minusLeast) (three 1 0 0)))
     ∷ at Sm13
     (turns "set.eq.u32.f64 %r3, %rd0, %rd1;" (setDoubles DataType.F64) (files (four 0 0 0 5) (replicate 32 0) (1 ∷ replicate 31 0) (three 0 0 0))
     (files (four 0 0 0 0) (replicate 32 0) (1 ∷ replicate 31 0) (three 0 0 0)))
@@ -170,6 +171,8 @@ cards =
     ∷ at Sm10 (answers "slct.f64.f32 %rd3, %rd0, %rd1, %r2;" (slctDoubles (SlctType.F32 false) DataType.F64) right (refused 12))
     ∷ at Sm13 (turns "selp.f64 %rd3, %rd0, %rd1, %p0;" (selpDoubles DataType.F64) (doubled 1 2 3 (three 1 0 0)) (doubled 1 2 1 (three 1 0 0)))
     ∷ at Sm13 (turns "slct.f64.s32 %rd3, %rd0, %rd1, %r2;" (slctDoubles SlctType.S32 DataType.F64) (doubled 1 2 3 (three 0 0 0)) (doubled 1 2 1 (three 0 0 0)))
+    ∷ at Sm13 (turns "slct.f64.f32 %rd3, %rd0, %rd1, %r2;" (slctDoubles (SlctType.F32 false) DataType.F64) (doubled 1 2 3 (three 0 0 0)) (doubled 1 2 1 (three 0 0 0)))
+    ∷ at Sm13 (turns "setp.lt.f64 %p1, %rd0, %rd1;" (setpDoubles DataType.F64) (doubled 1 2 3 (three 0 0 0)) (doubled 1 2 3 (three 0 1 0)))
     -- b64, u64, s64 need nothing
     ∷ at Sm10 (turns "selp.b64 %rd3, %rd0, %rd1, %p0;" (selpDoubles DataType.B64) (doubled 1 2 3 (three 1 0 0)) (doubled 1 2 1 (three 1 0 0)))
     ∷ at Sm10 (turns "slct.s64.s32 %rd3, %rd0, %rd1, %r2;" (slctDoubles SlctType.S32 DataType.S64) (doubled 1 2 3 (three 0 0 0)) (doubled 1 2 1 (three 0 0 0)))

@@ -1,6 +1,5 @@
 -- T-14, `sat` with `add`: two scalar lines a lane, by a spare register, do what the SIMD line does. Assumes nothing.
 use Prim.Native.Nat.{ℕ, _<_}
-use native.Mathlib.Omega.{arith}
 use mathlib.Core.Path.{_≡_, refl, sym, ap, ap₂, subst, _∙_}
 use mathlib.Core.Bool.{Bool, true, false}
 use lib.IntN.{ℤ, _+ℤ_}

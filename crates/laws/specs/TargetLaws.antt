@@ -154,6 +154,43 @@ withoutFtz (VsetLanes cmp l) = VsetLanes cmp l
 withoutFtz (ArithmeticLanes op dtype sat l) = ArithmeticLanes op dtype sat l
 withoutFtz (Selp s c) = Selp s c
 
+-- the line with `ftz` where the target flushes: of set and setp, where it says something of f32 alone (`other-test`), and of slct with f32
+abbrev pub worked : Target → Instruction → Instruction
+worked t (Set dtype d s) = Set dtype d (record { cmp = s .cmp; combination = s .combination; ftz = flushes t (s .ftz); stype = s .stype; a = s .a; b = s .b })
+worked t (Setp d s) = Setp d (record { cmp = s .cmp; combination = s .combination; ftz = flushes t (s .ftz); stype = s .stype; a = s .a; b = s .b })
+worked t (Slct (SlctType.F32 ftz) s c) = Slct (SlctType.F32 (flushes t ftz)) s c
+worked t (Slct SlctType.S32 s c) = Slct SlctType.S32 s c
+worked t (Arithmetic op dtype sat s) = Arithmetic op dtype sat s
+worked t (Vset cmp s) = Vset cmp s
+worked t (VsetLanes cmp l) = VsetLanes cmp l
+worked t (ArithmeticLanes op dtype sat l) = ArithmeticLanes op dtype sat l
+worked t (Selp s c) = Selp s c
+
+-- a target writes what sm_30 writes of that line: nothing else knows the target
+pub as-newest : (t : Target) (i : Instruction) (f : Files) → writes t i f ≡ writes Sm30 (worked t i) f
+unfolding writes testOf
+as-newest t (Arithmetic op dtype sat s) f = refl
+as-newest t (Vset cmp s) f = refl
+as-newest t (VsetLanes cmp l) f = refl
+as-newest t (ArithmeticLanes op dtype sat l) f = refl
+as-newest t (Set dtype d s) f = refl
+as-newest t (Setp d s) f = refl
+as-newest t (Selp s c) f = refl
+as-newest t (Slct SlctType.S32 s c) f = refl
+as-newest t (Slct (SlctType.F32 ftz) s c) f = refl
+
+-- and sm_30 works each line as it stands
+pub worked-newest : (i : Instruction) → worked Sm30 i ≡ i
+worked-newest (Arithmetic op dtype sat s) = refl
+worked-newest (Vset cmp s) = refl
+worked-newest (VsetLanes cmp l) = refl
+worked-newest (ArithmeticLanes op dtype sat l) = refl
+worked-newest (Set dtype d s) = refl
+worked-newest (Setp d s) = refl
+worked-newest (Selp s c) = refl
+worked-newest (Slct SlctType.S32 s c) = refl
+worked-newest (Slct (SlctType.F32 ftz) s c) = refl
+
 -- whether or not `ftz` stands there, the first two write the same
 pub ftz-no-matter : (t : Target) → flushesAlways t ≡ true → (i : Instruction) (f : Files) → writes t i f ≡ writes t (withoutFtz i) f
 unfolding writes testOf
@@ -169,7 +206,7 @@ ftz-no-matter t e (Slct (SlctType.F32 ftz) s c) f = rw e
 
 -- ==== sm_30 gives what was given before there were targets
 
--- `run` as it stood: no 12, and set, setp and slct flush by `ftz` alone
+-- `run` as it stood, without 12
 pub run-newest : (x : Record) (f : Files)
     → run Sm30 x f
     ≡ cond (not (isLegal x)) (outcome (refused 8) f)
@@ -179,11 +216,3 @@ pub run-newest : (x : Record) (f : Files)
     (outcome skipped f))))
 unfolding run
 run-newest x f = rw (newest-allows x)
-
-pub test-newest : (f : Files) (s : Comparison) → testOf Sm30 f s ≡ comparisonOf (s .cmp) (s .ftz) (s .stype) (operandOf f (s .a)) (operandOf f (s .b))
-unfolding testOf
-test-newest f s = refl
-
-pub type-newest : (c : SlctType) → slctTypeAt Sm30 c ≡ c
-type-newest SlctType.S32 = refl
-type-newest (SlctType.F32 ftz) = refl

@@ -1,4 +1,4 @@
--- Every line gets the answer that the rules give it, and no other: the first refusal in document 01's order that applies, or its record. Assumes
+-- Every line gets the answer that the rules give it, and no other: the first refusal in the documents' order that applies, or its record. Assumes
 -- nothing.
 use Prim.Native.Nat.{ℕ, _≤_, _<_}
 use native.Mathlib.Omega.{arith}
@@ -8,7 +8,7 @@ use mathlib.Core.List.{List, _∷_}
 use lib.ListN.{length}
 use lib.Dec.{eqb, ltb}
 use borrow.Author.Tests.{eqb-true, ltb-true, ltb-false}
-use Rattle.record.specs.Refusals.{numbersInRange, pairApart, Legal}
+use Rattle.record.specs.Refusals.{numbersInRange, pairApart}
 use Rattle.record.specs.declared.Record.{Record}
 use Rattle.record.specs.declared.Target.{Target}
 use Rattle.rules.specs.Targets.{allows, Allowed}
@@ -26,7 +26,7 @@ use Rattle.read.specs.declared.Verdict.{Verdict}
 use Rattle.read.specs.Mirror.{verdictOf, noPlace, refusedBy, answerBy, readOf}
 use Rattle.read.specs.Laws.{decides, decides-unique, one-record, spelled-by-all}
 
--- ==== the reader's refusals, said of the line alone
+-- ==== the reader's refusals, said of the line and the target alone
 
 -- one refusal at most
 one-refusal : (target : Target) (l : List ℕ) (n k : ℕ) → Refuses target l n → Refuses target l k → n ≡ k

@@ -1,5 +1,5 @@
 -- What the reader finds of a line, places aside: each refusal stands on what the stages before it found. No one has to believe it: Answering.antt joins it to
--- `Answers`, which says each refusal of the line alone.
+-- `Answers`, which says each refusal of the line and the target alone.
 use Prim.Native.Nat.{ℕ, _≤_, _<_}
 use mathlib.Core.Path.{_≡_}
 use mathlib.Core.Bool.{true, false}

@@ -22,7 +22,7 @@ ghost use Rattle.read.specs.Paper.{answerOf};
 ghost use Rattle.read.specs.Mirror.{predIn, guardAt, guardIn, recordOf, candidateBy, candidateOf, fitBy, refusalOf, stoppedBy, decidedBy, verdictOf, refusedBy};
 ghost use Rattle.places.specs.Mirror.{guardGood};
 
-// The record, or document 01's number of the refusal and, if it carries one, its place: the bytes of the line before it.
+// The record, or the documents' number of the refusal and, if it carries one, its place: the bytes of the line before it.
 pub enum Reading {
     Record(Record),
     Refused(u8),

@@ -1,4 +1,4 @@
--- The code's own form of document 01's order: a test for each refusal, and the number of the first that holds, 0 where none does. No one has
+-- The code's own form of the documents' order: a test for each refusal, and the number of the first that holds, 0 where none does. No one has
 -- to believe it: the proofs of `read` and `execute` join it to `Answers` and `run`.
 use Prim.Native.Nat.{ℕ}
 use mathlib.Core.Bool.{Bool, cond}

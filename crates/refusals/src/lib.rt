@@ -1,4 +1,4 @@
-// Which refusal comes first, in document 01's order: each is looked at only when the earlier ones don't apply.
+// Which refusal comes first, in the documents' order: each is looked at only when the earlier ones don't apply.
 ghost use mathlib.Core.Path.{_≡_};
 ghost use Rattle.refusals.specs.Order.{firstReading, firstExecuting};
 

@@ -12,13 +12,17 @@ use lib.Dec.{eqb, ltb}
 use borrow.Author.Tests.{ltb-true, ltb-false}
 use Rattle.record.specs.declared.Target.{Target}
 use Rattle.record.specs.Registers.{Files}
-use Rattle.rules.specs.Reading.{Answer}
+use Rattle.rules.specs.Reading.{Answer, read, Answers}
+use Rattle.rules.specs.Executing.{run}
 use Rattle.rules.specs.Writing.{front}
 use Rattle.read.specs.Mirror.{readOf}
 use Rattle.read.specs.Answering.{answers, answers-unique}
 use Rattle.report.specs.declared.Progress.{Progress}
-use Rattle.report.specs.Listing.{linesWith, linesOf, printedLine, filesAfter, Turn, Turns, none, more, listingLimit, tooLongText, Output, too-long, printed}
+use Rattle.report.specs.Listing.{linesWith, linesOf, executedText, printedLine, filesAfter, Turn, Turns, none, more, listingLimit, tooLongText, Output, too-long, printed}
 use Rattle.signs.specs.Bytes.{lineFeed}
+use Rattle.signs.specs.Text.{bytes}
+use Rattle.signs.specs.Digits.{decimal}
+use Rattle.record.specs.declared.Record.{Record}
 use Rattle.changes.specs.Changes.{startFiles, changeText, changesText, registersText}
 use Rattle.report.specs.Chunks.{lineLength, lineAt, behind, nextPlace, nextNumber, lineRoom, SomeLines, ended, no-room, one-more, Prints, Calls}
 use Rattle.report.specs.Chunks as chunks
@@ -35,6 +39,16 @@ turn-one {target} {n} {l} {t} {u} {f} {g} {h} a b =
     let e : a .answer ≡ b .answer = answers-unique target l (a .answer) (b .answer) (a .answers) (b .answers) in (
       a .text ∙ ap (λ (x : Answer). printedLine target n x f) e ∙ sym (b .text),
       a .files ∙ ap (λ (x : Answer). filesAfter target x f) e ∙ sym (b .files),
+    )
+
+-- a line that is accepted at the target is executed at it
+pub turn-runs : {target : Target} {n : ℕ} {l t : List ℕ} {f g : Files} {x : Record} → Turn target n l f t g → Answers target l (read x)
+    → (t ≡ decimal n ++ bytes " " ++ executedText (run target x f .answer) x ++ (lineFeed ∷ [])) × (g ≡ run target x f .files)
+unfolding printedLine
+turn-runs {target} {n} {l} {t} {f} {g} {x} a h =
+    let e : a .answer ≡ read x = answers-unique target l (a .answer) (read x) (a .answers) h in (
+      a .text ∙ ap (λ (y : Answer). printedLine target n y f) e,
+      a .files ∙ ap (λ (y : Answer). filesAfter target y f) e,
     )
 
 pub record AllTurns (target : Target) (n : ℕ) (ls : List (List ℕ)) (f : Files) : Type 0 where

@@ -1,5 +1,6 @@
 -- Document 01, "What execution does": its bullets in their order, with request T-01 after vset2 and vset4 and T-02 in slct, as functions of what the registers hold before. Each sentence stands above
--- what says it; those on files, guards and places are in Executing.antt. Words are untyped, so an f32 is its bits. Subnormal numbers are kept.
+-- what says it; those on files, guards and places are in Executing.antt. Words are untyped, so an f32 is its bits. Subnormal numbers are kept,
+-- unless `ftz` stands there or, T-07, the target flushes (Targets.antt).
 use Prim.Native.Nat.{ℕ, zero, suc, _+_, _-_, _/_, _%_}
 use mathlib.Core.Bool.{Bool, Bool·beq, true, false, not, _&&_, _||_, cond}
 use lib.IntN.{ℤ, pos, negsuc, negℤ, _+ℤ_, _-ℤ_}

@@ -96,7 +96,8 @@ pub record Fits (t : LineTree) (m : Record) : Type 0 where
   pub modifiers : modifiersFit m ≡ true
   pub operands : operandsFit m ≡ true
 
--- the rows of the table, each said of the line alone. 5 is asked of a head that is in the table, since the row says which operands are right
+-- the rows of the table, each said of the line alone, 12 of its record at the target. 5 is asked of a head that is in the table, since the row says
+-- which operands are right
 pub data Applies (target : Target) (l : List ℕ) : ℕ → Type 0 where
   -- line over 160 bytes
   too-long : lineLimit < length l → Applies target l 1

@@ -3,9 +3,10 @@ use Prim.Native.Nat.{ℕ}
 use native.Mathlib.Omega.{arith}
 use mathlib.Core.Path.{_≡_, refl, ap, ap₂, _∙_}
 use mathlib.Core.Bool.{Bool, true, false, _&&_, cond}
-use mathlib.Core.List.{List, [], _∷_}
+use mathlib.Core.List.{List, [], _∷_, map}
 use lib.Dec.{eqb}
 use borrow.Author.Tests.{eqb-true}
+use Rattle.signs.specs.Text.{bytes}
 use Rattle.record.specs.declared.Target.{Target}
 use Rattle.record.specs.declared.Target.the-variants.{Sm10, Sm13, Sm20, Sm30}
 use Rattle.rules.specs.Targets.{targetName}
@@ -33,6 +34,13 @@ name-named Sm10 = refl
 name-named Sm13 = refl
 name-named Sm20 = refl
 name-named Sm30 = refl
+
+-- spelled out, with names that are none,
+pub names-figure :
+    map namedOf (bytes "sm_10" ∷ bytes "sm_13" ∷ bytes "sm_20" ∷ bytes "sm_30" ∷ bytes "sm_3" ∷ bytes "SM_30" ∷ bytes "sm_30 " ∷ [] ∷ [])
+    ≡ Is Sm10 ∷ Is Sm13 ∷ Is Sm20 ∷ Is Sm30 ∷ Unknown ∷ Unknown ∷ Unknown ∷ Unknown ∷ []
+unfolding namedOf sameText
+names-figure = refl
 
 off : {A : Type 0} → false ≡ true → A
 off e = let z : _≡_ {A = ℕ} 0 1 = cc in absurd (omega arith)
