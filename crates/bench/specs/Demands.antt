@@ -117,7 +117,7 @@ module _ (target : Target) (x : Record) (f : Files) (allowed : Allowed target x)
   pub destinations-hold : (w : Write) → Listed w (writes target (x .instruction) f) → at (run target x f .files) (w .place) ≡ w .value
   destinations-hold w e = runs.holds-written target x f allowed admitted guard w e
 
-  -- (SIMD lines are allowed at sm_30 alone, so of those below the laws of lanes say nothing but that)
+  -- (SIMD lines are allowed at sm_30 alone: of the laws below, those of lanes speak of that target)
   -- vset2 and vset4: masked lanes, those the mask names, get 1 or 0; other lanes keep c's part. With `add`, d is c plus the number of masked
   -- lanes that hold, modulo 2^32
   module _ (cmp : Cmp6) (l : Lanes) (is : x .instruction ≡ VsetLanes cmp l) where

@@ -1,4 +1,4 @@
--- Figures for T-07, old yard cards: lines at each target, through `run`, and the whole outcome. Those of its issue come first. `%r0`, `%r1` and `%r2` hold a, b and c;
+-- Figures for T-07, old yard cards: lines, each at its target, through `run`, and the whole outcome. Those of its issue come first. `%r0`, `%r1` and `%r2` hold a, b and c;
 -- d is `%r3`; of `%rd` a, b and d likewise. One list with one claim.
 use Prim.Native.Nat.{ℕ}
 use Prim.Native.String.{String}
@@ -130,7 +130,7 @@ setpPlain left = leaves "setp.eq.f32 %p1|%p2, %r0, %r1;" (setpSingles false) lea
 abbrev setpFtz : Figure
 setpFtz = leaves "setp.eq.ftz.f32 %p1|%p2, %r0, %r1;" (setpSingles true) least 0 (three 0 0 0) (three 0 1 0)
 
--- what a line of double-words leaves: files g
+-- a line that is done on files f and leaves files g
 abbrev turns : String → Record → Files → Files → Figure
 turns line spelled f g = record { target = Sm10; line = line; spelled = spelled; before = f; answer = done; left = g }
 

@@ -104,7 +104,7 @@ lanes w atype btype add mask asel =
 abbrev pub vsetRecord : LaneWidth → VideoType → Cmp6 → Bool → Mask → Digits → Record
 vsetRecord w atype cmp add mask asel = always (VsetLanes cmp (lanes w atype U32 add mask asel))
 
-abbrev pub lanesRecord : LaneArith → LaneWidth → VideoType → VideoType → VideoType → Bool → Bool → Mask → Digits → Record
+abbrev lanesRecord : LaneArith → LaneWidth → VideoType → VideoType → VideoType → Bool → Bool → Mask → Digits → Record
 lanesRecord op w dtype atype btype sat add mask asel = always (ArithmeticLanes op dtype sat (lanes w atype btype add mask asel))
 
 -- all of one type, full mask, default selectors

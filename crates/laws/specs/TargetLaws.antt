@@ -1,4 +1,4 @@
--- T-07's targets: their names and their order, and that sm_30 gives what was given before it. Assumes nothing.
+-- T-07's targets: their names, what they allow, when they flush, and that sm_30 gives what was given before there were targets. Assumes nothing.
 use Prim.Native.Nat.{ℕ, _≤_}
 use native.Mathlib.Omega.{arith}
 use mathlib.Core.Path.{_≡_, refl, ap, ap₂, sym, _∙_}

@@ -91,7 +91,7 @@ fn last_refusal(target: Target, good: bool, r: Record) -> u8
     refusals::reading(false, false, false, false, !fit, !inside, !apart, !allowed)
 }
 
-// A line that stops before there is a record: what the tests of a record would say no longer counts.
+// Before there is a record.
 fn stopped(too_long: bool, no_shape: bool, no_opcode: bool, no_row: bool) -> Verdict
     ensures { λ a. ⌜ a ≡ stoppedBy «too_long» «no_shape» «no_opcode» «no_row» ⌝ }
 {
