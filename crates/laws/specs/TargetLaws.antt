@@ -142,29 +142,25 @@ module _ (t u : Target) (e : flushesAlways t ≡ flushesAlways u) (f : Files) wh
   unfolding run after
   run-alike x a = rw (a, writes-alike (x .instruction))
 
--- the line without its `ftz`
-abbrev pub withoutFtz : Instruction → Instruction
-withoutFtz (Set dtype d s) = Set dtype d (record { cmp = s .cmp; combination = s .combination; ftz = false; stype = s .stype; a = s .a; b = s .b })
-withoutFtz (Setp d s) = Setp d (record { cmp = s .cmp; combination = s .combination; ftz = false; stype = s .stype; a = s .a; b = s .b })
-withoutFtz (Slct (SlctType.F32 ftz) s c) = Slct (SlctType.F32 false) s c
-withoutFtz (Slct SlctType.S32 s c) = Slct SlctType.S32 s c
-withoutFtz (Arithmetic op dtype sat s) = Arithmetic op dtype sat s
-withoutFtz (Vset cmp s) = Vset cmp s
-withoutFtz (VsetLanes cmp l) = VsetLanes cmp l
-withoutFtz (ArithmeticLanes op dtype sat l) = ArithmeticLanes op dtype sat l
-withoutFtz (Selp s c) = Selp s c
+-- the line with its `ftz` turned into another
+abbrev pub withFtz : (Bool → Bool) → Instruction → Instruction
+withFtz turn (Set dtype d s) = Set dtype d (record { cmp = s .cmp; combination = s .combination; ftz = turn (s .ftz); stype = s .stype; a = s .a; b = s .b })
+withFtz turn (Setp d s) = Setp d (record { cmp = s .cmp; combination = s .combination; ftz = turn (s .ftz); stype = s .stype; a = s .a; b = s .b })
+withFtz turn (Slct (SlctType.F32 ftz) s c) = Slct (SlctType.F32 (turn ftz)) s c
+withFtz turn (Slct SlctType.S32 s c) = Slct SlctType.S32 s c
+withFtz turn (Arithmetic op dtype sat s) = Arithmetic op dtype sat s
+withFtz turn (Vset cmp s) = Vset cmp s
+withFtz turn (VsetLanes cmp l) = VsetLanes cmp l
+withFtz turn (ArithmeticLanes op dtype sat l) = ArithmeticLanes op dtype sat l
+withFtz turn (Selp s c) = Selp s c
 
--- the line with `ftz` where the target flushes: of set and setp, where it says something of f32 alone (`other-test`), and of slct with f32
+-- without it
+abbrev pub withoutFtz : Instruction → Instruction
+withoutFtz i = withFtz (λ ftz. false) i
+
+-- with it where the target flushes: in set and setp it says something of f32 alone (`other-test`)
 abbrev pub worked : Target → Instruction → Instruction
-worked t (Set dtype d s) = Set dtype d (record { cmp = s .cmp; combination = s .combination; ftz = flushes t (s .ftz); stype = s .stype; a = s .a; b = s .b })
-worked t (Setp d s) = Setp d (record { cmp = s .cmp; combination = s .combination; ftz = flushes t (s .ftz); stype = s .stype; a = s .a; b = s .b })
-worked t (Slct (SlctType.F32 ftz) s c) = Slct (SlctType.F32 (flushes t ftz)) s c
-worked t (Slct SlctType.S32 s c) = Slct SlctType.S32 s c
-worked t (Arithmetic op dtype sat s) = Arithmetic op dtype sat s
-worked t (Vset cmp s) = Vset cmp s
-worked t (VsetLanes cmp l) = VsetLanes cmp l
-worked t (ArithmeticLanes op dtype sat l) = ArithmeticLanes op dtype sat l
-worked t (Selp s c) = Selp s c
+worked t i = withFtz (flushes t) i
 
 -- a target writes what sm_30 writes of that line: nothing else knows the target
 pub as-newest : (t : Target) (i : Instruction) (f : Files) → writes t i f ≡ writes Sm30 (worked t i) f
