@@ -1,14 +1,29 @@
 -- Lines and the answers that document 01, T-05, T-06 and T-07 give them: lines that are read, each refusal 1 to 7, from 2 on with its place, 12, and lines to which more than one
--- applies. One list with one claim.
+-- applies. One list with one claim. Then whole listings, document 01's own and one at each target, with what is printed of them, and their claim.
 use Prim.Native.Nat.{ℕ}
+use Prim.Native.String.{String}
 use mathlib.Core.Path.{_≡_, refl, subst}
+use mathlib.Core.Bool.{true}
 use mathlib.Core.List.{List, [], _∷_, _++_, map}
-use lib.ListN.{replicate}
+use lib.ListN.{length, replicate}
+use lib.Dec.{leb}
+use lib.Ieee.{lt, eq, isNan, ofBits, ofFields, odd}
+use borrow.Author.Tests.{leb-true}
+use Rattle.signs.specs.Bytes.{lineFeed}
+use Rattle.signs.specs.Digits.{decimal, decimalIn, hex}
 use Rattle.signs.specs.Text.{bytes}
 use Rattle.base.specs.Pack.{codeOf}
+use Rattle.record.specs.Refusals.{isLegal}
 use Rattle.record.specs.declared.Target.{Target}
 use Rattle.record.specs.declared.Target.the-variants.{Sm10, Sm13, Sm20, Sm30}
 use Rattle.rules.specs.Targets.{allows}
+use Rattle.rules.specs.Numbers.{exactOf, holdsZ}
+use Rattle.rules.specs.Execution.{selectedOf, formOf, arithmeticOf, lanesOf, laneHolds, valueOf, comparisonOf}
+use Rattle.rules.specs.Executing.{combinedOf, testOf, writes, after, sizesFit, predsFit, guardHolds, run}
+use Rattle.rules.specs.StandardLine.{standard}
+use Rattle.changes.specs.Changes.{startFiles, changeText, changesText, registersText}
+use Rattle.report.specs.Listing.{linesWith, printedLine, listingLimit, Output}
+use Rattle.report.specs.OutputLaws.{turnsText, turnsFiles, computed, computed-output}
 use Rattle.rules.specs.Reading.{Answer, read, refused, refused-at, Answers}
 use Rattle.scan.specs.Runs.{cappedSum}
 use Rattle.scan.specs.Numbers.{numberFound, numberBy}
@@ -186,10 +201,96 @@ answered =
     ∷ at Sm10 (bytes "setp.lt.f64 %p1|%p1, %rd2, %rd3;") (refused-at 7 16)
     ∷ []
 
--- the reader's stages give each line its answer
-answered-computed : map (λ (x : Answered). readOf (x .target) (x .line)) answered ≡ map (λ (x : Answered). x .answer) answered
-unfolding answered readOf allows refusedBy verdictOf placeOf partsPlaceOf modifierPlaceOf guardPlaceOf legalPlaceOf operandIndexOf rowPlaceOf row.guessOf beginsRow row.tried row.completed row.entry isRow operandPlaceOf fill.guessOf beginsFilled fill.tried fill.completed fill.entry isFilled turnsAt searched shapePlaceOf wrongFrom step register digits follow ends named headAt guardEnd nameFrom operandsAt operandFrom nextAt nextOf nextBy barAt overAt candidateOf shapeOf guardedBy guardOf guardBy fromHead headOf turns nameTurn nameBy pushedName fromGap fromOperands operandsScanned operandTurn operandBy operandScanned invertedBy firstOf afterBy partOf secondOf secondBy dividedBy dividerOf dividerBy pushedTree fromEnd stoppedAt registerOf registerBy prefixBy registerFrom numberFound numberBy cappedSum codeOf rowOf rowBy foundOf readHead nameAt wholeOf sidesAt sidesBy headCompared comparedBy typedOf typedBy endingAt endingBy arithmeticRow arithmeticTyped arithmeticBy vsetRow vsetBy vsetLanesRow vsetLanesBy laneArithmeticRow laneArithmeticTyped laneArithmeticBy testedOf testedBy testAt setRow setTested setAt setBy setpRow setpTested setpAt setpBy selpRow selpBy slctRow slctAt slctBy slctTypeOf opcodeOf videoOf setTypeOf selectorOf typeOf sixOf cmpOf boolOpOf op2Of maskOf falling digitsNamed digitsIn filledOf treeAt scalarFrom lanesFrom comparisonFrom choiceFrom
-answered-computed = refl
+-- ==== whole listings
+
+pub record Listing : Type 0 where
+  pub target : Target
+  pub lines : List ℕ
+  pub output : List ℕ
+
+-- lines, each with its line feed
+abbrev text : List String → List ℕ
+text [] = []
+text (l ∷ ls) = bytes l ++ (lineFeed ∷ text ls)
+
+-- T-07: what each target is too old for, and what it is not; 6 comes before 12 at each
+abbrev cards : List ℕ
+cards =
+    text
+    ("vadd.u32.u32.u32 %r63, %r1, %r2;"
+    ∷ "vadd.u32.u32.u32 %r64, %r2, %r3;"
+    ∷ "vset4.u32.u32.lt %r10, %r1, %r2, %r0;"
+    ∷ "set.lt.u32.f64 %r1, %rd2, %rd3;"
+    ∷ "selp.b64 %rd1, %rd2, %rd3, %p1;"
+    ∷ [])
+
+abbrev prints : Target → List ℕ → List String → Listing
+prints t ls out = record { target = t; lines = ls; output = text out }
+
+unfoldable pub listings : List Listing
+listings =
+    -- document 01's, with the place that T-05 puts behind the number
+    prints Sm30
+    (text
+    ("vset4.u32.u32.lt %r10, %r1, %r2, %r0;"
+    ∷ "vset4.u32.u32.ne.max %r1, %r2, %r3, %r0;"
+    ∷ "setp.lt.u32 %p1|_, %r1, %r2;"
+    ∷ "@!%p1  selp.u32 %r11, %r1,%r2, %p1;"
+    ∷ []))
+    ("1 done vset4.u32.u32.lt %r10, %r1, %r2, %r0;"
+    ∷ "2 refused 4 17"
+    ∷ "3 done setp.lt.u32 %p1|_, %r1, %r2;"
+    ∷ "4 skipped @!%p1 selp.u32 %r11, %r1, %r2, %p1;"
+    ∷ "%r10 01010101"
+    ∷ "%p1 1"
+    ∷ [])
+    ∷ prints Sm10 cards
+    ("1 refused 12" ∷ "2 refused 6 17" ∷ "3 refused 12" ∷ "4 refused 12" ∷ "5 done selp.b64 %rd1, %rd2, %rd3, %p1;" ∷ "%rd1 0000000000000003" ∷ [])
+    ∷ prints Sm13 cards
+    ("1 refused 12"
+    ∷ "2 refused 6 17"
+    ∷ "3 refused 12"
+    ∷ "4 done set.lt.u32.f64 %r1, %rd2, %rd3;"
+    ∷ "5 done selp.b64 %rd1, %rd2, %rd3, %p1;"
+    ∷ "%r1 FFFFFFFF"
+    ∷ "%rd1 0000000000000003"
+    ∷ [])
+    ∷ prints Sm20 cards
+    ("1 done vadd.u32.u32.u32 %r63, %r1, %r2;"
+    ∷ "2 refused 6 17"
+    ∷ "3 refused 12"
+    ∷ "4 done set.lt.u32.f64 %r1, %rd2, %rd3;"
+    ∷ "5 done selp.b64 %rd1, %rd2, %rd3, %p1;"
+    ∷ "%r1 FFFFFFFF"
+    ∷ "%r63 03030303"
+    ∷ "%rd1 0000000000000003"
+    ∷ [])
+    ∷ prints Sm30 cards
+    ("1 done vadd.u32.u32.u32 %r63, %r1, %r2;"
+    ∷ "2 refused 6 17"
+    ∷ "3 done vset4.u32.u32.lt %r10, %r1, %r2, %r0;"
+    ∷ "4 done set.lt.u32.f64 %r1, %rd2, %rd3;"
+    ∷ "5 done selp.b64 %rd1, %rd2, %rd3, %p1;"
+    ∷ "%r1 FFFFFFFF"
+    ∷ "%r10 01010101"
+    ∷ "%r63 03030303"
+    ∷ "%rd1 0000000000000003"
+    ∷ [])
+    -- no line prints nothing; a line feed alone is an empty line; a last line without one counts
+    ∷ prints Sm30 [] []
+    ∷ prints Sm30 (lineFeed ∷ []) ("1 refused 2 0" ∷ [])
+    ∷ prints Sm10 (bytes "vavrg") ("1 refused 2 5" ∷ [])
+    ∷ []
+
+-- ==== the claims
+
+-- the reader's stages give each line its answer, and the listings are printed by them; together, so that the stages are named once
+answered-computed :
+    (map (λ (x : Answered). readOf (x .target) (x .line)) answered ≡ map (λ (x : Answered). x .answer) answered)
+    × (map (λ (x : Listing). computed (x .target) (x .lines)) listings ≡ map (λ (x : Listing). x .output) listings)
+    × (map (λ (x : Listing). leb (length (x .lines)) listingLimit) listings ≡ map (λ (x : Listing). true) listings)
+unfolding listings linesWith printedLine turnsText turnsFiles registersText changesText changeText startFiles hex decimal decimalIn standard run isLegal sizesFit predsFit guardHolds after writes arithmeticOf formOf selectedOf exactOf lanesOf laneHolds holdsZ combinedOf testOf comparisonOf valueOf lt eq isNan ofBits ofFields odd answered readOf allows refusedBy verdictOf placeOf partsPlaceOf modifierPlaceOf guardPlaceOf legalPlaceOf operandIndexOf rowPlaceOf row.guessOf beginsRow row.tried row.completed row.entry isRow operandPlaceOf fill.guessOf beginsFilled fill.tried fill.completed fill.entry isFilled turnsAt searched shapePlaceOf wrongFrom step register digits follow ends named headAt guardEnd nameFrom operandsAt operandFrom nextAt nextOf nextBy barAt overAt candidateOf shapeOf guardedBy guardOf guardBy fromHead headOf turns nameTurn nameBy pushedName fromGap fromOperands operandsScanned operandTurn operandBy operandScanned invertedBy firstOf afterBy partOf secondOf secondBy dividedBy dividerOf dividerBy pushedTree fromEnd stoppedAt registerOf registerBy prefixBy registerFrom numberFound numberBy cappedSum codeOf rowOf rowBy foundOf readHead nameAt wholeOf sidesAt sidesBy headCompared comparedBy typedOf typedBy endingAt endingBy arithmeticRow arithmeticTyped arithmeticBy vsetRow vsetBy vsetLanesRow vsetLanesBy laneArithmeticRow laneArithmeticTyped laneArithmeticBy testedOf testedBy testAt setRow setTested setAt setBy setpRow setpTested setpAt setpBy selpRow selpBy slctRow slctAt slctBy slctTypeOf opcodeOf videoOf setTypeOf selectorOf typeOf sixOf cmpOf boolOpOf op2Of maskOf falling digitsNamed digitsIn filledOf treeAt scalarFrom lanesFrom comparisonFrom choiceFrom
+answered-computed = (refl, refl, refl)
 
 -- the grammar gives each line of a list the answer beside it
 abbrev pub EachGets : List Answered → Type 0
@@ -204,4 +305,24 @@ each (x ∷ xs) e =
     (subst (Answers (x .target) (x .line)) this (answers (x .target) (x .line)), each xs rest)
 
 pub answered-hold : EachGets answered
-answered-hold = each answered answered-computed
+answered-hold = each answered (answered-computed .0)
+
+-- what is printed of each listing of a list is the output beside it
+abbrev pub EachPrints : List Listing → Type 0
+EachPrints [] = Unit {0}
+EachPrints (x ∷ xs) = Output (x .target) (x .lines) (x .output) × EachPrints xs
+
+each-printed : (xs : List Listing) → map (λ (x : Listing). computed (x .target) (x .lines)) xs ≡ map (λ (x : Listing). x .output) xs
+    → map (λ (x : Listing). leb (length (x .lines)) listingLimit) xs ≡ map (λ (x : Listing). true) xs → EachPrints xs
+each-printed [] e h = tt
+each-printed (x ∷ xs) e h =
+    let this : computed (x .target) (x .lines) ≡ x .output = cc in
+    let rest : map (λ (x : Listing). computed (x .target) (x .lines)) xs ≡ map (λ (x : Listing). x .output) xs = cc in
+    let short : leb (length (x .lines)) listingLimit ≡ true = cc in
+    let shorts : map (λ (x : Listing). leb (length (x .lines)) listingLimit) xs ≡ map (λ (x : Listing). true) xs = cc in (
+      subst (Output (x .target) (x .lines)) this (computed-output (x .target) (x .lines) (leb-true (length (x .lines)) listingLimit short)),
+      each-printed xs rest shorts,
+    )
+
+pub listings-hold : EachPrints listings
+listings-hold = each-printed listings (answered-computed .1) (answered-computed .2)

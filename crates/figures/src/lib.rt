@@ -1,1 +1,1 @@
-// No code: the bench figures, standard lines of records, and lines with their answers, proved over the definitions: see specs/.
+// No code: the bench figures, standard lines of records, lines with their answers, and listings with their outputs, proved over the definitions: see specs/.

@@ -12,7 +12,7 @@ use lib.Dec.{eqb, ltb}
 use borrow.Author.Tests.{ltb-true, ltb-false}
 use Rattle.record.specs.declared.Target.{Target}
 use Rattle.record.specs.Registers.{Files}
-use Rattle.rules.specs.Reading.{Answer, read, Answers}
+use Rattle.rules.specs.Reading.{Answer, read, refused, refused-at, Answers}
 use Rattle.rules.specs.Executing.{run}
 use Rattle.rules.specs.Writing.{front}
 use Rattle.read.specs.Mirror.{readOf}
@@ -51,16 +51,56 @@ turn-runs {target} {n} {l} {t} {f} {g} {x} a h =
       a .files ∙ ap (λ (y : Answer). filesAfter target y f) e,
     )
 
-pub record AllTurns (target : Target) (n : ℕ) (ls : List (List ℕ)) (f : Files) : Type 0 where
-  pub text : List ℕ
-  pub files : Files
-  pub turns : Turns target n ls f text files
+-- a line that is refused at the target prints its number, and its place where it has one, and moves nothing
+pub turn-refused : {target : Target} {n k : ℕ} {l t : List ℕ} {f g : Files} → Turn target n l f t g → Answers target l (refused k)
+    → (t ≡ decimal n ++ bytes " " ++ (bytes "refused " ++ decimal k) ++ (lineFeed ∷ [])) × (g ≡ f)
+unfolding printedLine
+turn-refused {target} {n} {k} {l} {t} {f} {g} a h =
+    let e : a .answer ≡ refused k = answers-unique target l (a .answer) (refused k) (a .answers) h in (
+      a .text ∙ ap (λ (y : Answer). printedLine target n y f) e,
+      a .files ∙ ap (λ (y : Answer). filesAfter target y f) e,
+    )
 
-all-turns : (target : Target) (n : ℕ) (ls : List (List ℕ)) (f : Files) → AllTurns target n ls f
-all-turns target n [] f = record { text = []; files = f; turns = none }
-all-turns target n (l ∷ ls) f =
-    let r = all-turns target (suc n) ls (filesAfter target (readOf target l) f) in
-    record { text = printedLine target n (readOf target l) f ++ r .text; files = r .files; turns = more (turn-of target n l f) (r .turns) }
+pub turn-refused-at : {target : Target} {n k p : ℕ} {l t : List ℕ} {f g : Files} → Turn target n l f t g → Answers target l (refused-at k p)
+    → (t ≡ decimal n ++ bytes " " ++ ((bytes "refused " ++ decimal k) ++ bytes " " ++ decimal p) ++ (lineFeed ∷ [])) × (g ≡ f)
+unfolding printedLine
+turn-refused-at {target} {n} {k} {p} {l} {t} {f} {g} a h =
+    let e : a .answer ≡ refused-at k p = answers-unique target l (a .answer) (refused-at k p) (a .answers) h in (
+      a .text ∙ ap (λ (y : Answer). printedLine target n y f) e,
+      a .files ∙ ap (λ (y : Answer). filesAfter target y f) e,
+    )
+
+-- each line of a listing has its turn at the listing's target, with the number and on the files that the lines before it have left
+pub record FirstTurn (target : Target) (n : ℕ) (l : List ℕ) (ls : List (List ℕ)) (f : Files) (t : List ℕ) (h : Files) : Type 0 where
+  pub text : List ℕ
+  pub rest : List ℕ
+  pub files : Files
+  pub turn : Turn target n l f text files
+  pub turns : Turns target (suc n) ls files rest h
+  pub whole : t ≡ text ++ rest
+
+pub turns-first : {target : Target} {n : ℕ} {l t : List ℕ} {ls : List (List ℕ)} {f h : Files} → Turns target n (l ∷ ls) f t h → FirstTurn target n l ls f t h
+turns-first (more {g = g} {t = t} {u = u} a x) = record { text = t; rest = u; files = g; turn = a; turns = x; whole = refl }
+
+-- what lines print and leave, computed by the reader's stages
+unfoldable pub turnsText : Target → ℕ → List (List ℕ) → Files → List ℕ
+turnsText target n [] f = []
+turnsText target n (l ∷ ls) f = printedLine target n (readOf target l) f ++ turnsText target (suc n) ls (filesAfter target (readOf target l) f)
+
+unfoldable pub turnsFiles : Target → List (List ℕ) → Files → Files
+turnsFiles target [] f = f
+turnsFiles target (l ∷ ls) f = turnsFiles target ls (filesAfter target (readOf target l) f)
+
+all-turns : (target : Target) (n : ℕ) (ls : List (List ℕ)) (f : Files) → Turns target n ls f (turnsText target n ls f) (turnsFiles target ls f)
+unfolding turnsText turnsFiles
+all-turns target n [] f = none
+all-turns target n (l ∷ ls) f = more (turn-of target n l f) (all-turns target (suc n) ls (filesAfter target (readOf target l) f))
+
+abbrev pub computed : Target → List ℕ → List ℕ
+computed target s = turnsText target 1 (linesOf s) startFiles ++ registersText (turnsFiles target (linesOf s) startFiles)
+
+pub computed-output : (target : Target) (s : List ℕ) → length s ≤ listingLimit → Output target s (computed target s)
+computed-output target s h = printed h (all-turns target 1 (linesOf s) startFiles)
 
 pub turns-one : {target : Target} {n : ℕ} {ls : List (List ℕ)} {t u : List ℕ} {f g h : Files} → Turns target n ls f t g → Turns target n ls f u h → (t ≡ u) × (g ≡ h)
 turns-one none none = (refl, refl)
@@ -74,9 +114,7 @@ every-listing target s = go (ltb listingLimit (length s)) refl
   where
     go : (b : Bool) → ltb listingLimit (length s) ≡ b → (t : List ℕ) × Output target s t
     go true e = (tooLongText, too-long (ltb-true listingLimit (length s) e))
-    go false e =
-        let r = all-turns target 1 (linesOf s) startFiles in
-        (r .text ++ registersText (r .files), printed (ltb-false listingLimit (length s) e) (r .turns))
+    go false e = (computed target s, computed-output target s (ltb-false listingLimit (length s) e))
 
 pub one-output : {target : Target} {s t u : List ℕ} → Output target s t → Output target s u → t ≡ u
 one-output (too-long a) (too-long b) = refl
