@@ -33,42 +33,35 @@ use Rattle.report.specs.ChunkLaws.{further-on}
 turn-of : (target : Target) (n : ℕ) (l : List ℕ) (f : Files) → Turn target n l f (printedLine target n (readOf target l) f) (filesAfter target (readOf target l) f)
 turn-of target n l f = record { answer = readOf target l; answers = answers target l; text = refl; files = refl }
 
--- what a line prints, and what it leaves in the files, is one thing
-pub turn-one : {target : Target} {n : ℕ} {l t u : List ℕ} {f g h : Files} → Turn target n l f t g → Turn target n l f u h → (t ≡ u) × (g ≡ h)
-turn-one {target} {n} {l} {t} {u} {f} {g} {h} a b =
-    let e : a .answer ≡ b .answer = answers-unique target l (a .answer) (b .answer) (a .answers) (b .answers) in (
-      a .text ∙ ap (λ (x : Answer). printedLine target n x f) e ∙ sym (b .text),
-      a .files ∙ ap (λ (x : Answer). filesAfter target x f) e ∙ sym (b .files),
+-- what a line prints and leaves in the files goes by its answer at the target,
+turn-answered : {target : Target} {n : ℕ} {l t : List ℕ} {f g : Files} {x : Answer} → Turn target n l f t g → Answers target l x
+    → (t ≡ printedLine target n x f) × (g ≡ filesAfter target x f)
+turn-answered {target} {n} {l} {t} {f} {g} {x} a h =
+    let e : a .answer ≡ x = answers-unique target l (a .answer) x (a .answers) h in (
+      a .text ∙ ap (λ (y : Answer). printedLine target n y f) e,
+      a .files ∙ ap (λ (y : Answer). filesAfter target y f) e,
     )
+
+-- and so is one thing
+pub turn-one : {target : Target} {n : ℕ} {l t u : List ℕ} {f g h : Files} → Turn target n l f t g → Turn target n l f u h → (t ≡ u) × (g ≡ h)
+turn-one a b = let e = turn-answered a (b .answers) in (e .0 ∙ sym (b .text), e .1 ∙ sym (b .files))
 
 -- a line that is accepted at the target is executed at it
 pub turn-runs : {target : Target} {n : ℕ} {l t : List ℕ} {f g : Files} {x : Record} → Turn target n l f t g → Answers target l (read x)
     → (t ≡ decimal n ++ bytes " " ++ executedText (run target x f .answer) x ++ (lineFeed ∷ [])) × (g ≡ run target x f .files)
 unfolding printedLine
-turn-runs {target} {n} {l} {t} {f} {g} {x} a h =
-    let e : a .answer ≡ read x = answers-unique target l (a .answer) (read x) (a .answers) h in (
-      a .text ∙ ap (λ (y : Answer). printedLine target n y f) e,
-      a .files ∙ ap (λ (y : Answer). filesAfter target y f) e,
-    )
+turn-runs a h = turn-answered a h
 
--- a line that is refused at the target prints its number, and its place where it has one, and moves nothing
+-- a line that is refused at it prints its number, and its place where it has one, and moves nothing
 pub turn-refused : {target : Target} {n k : ℕ} {l t : List ℕ} {f g : Files} → Turn target n l f t g → Answers target l (refused k)
     → (t ≡ decimal n ++ bytes " " ++ (bytes "refused " ++ decimal k) ++ (lineFeed ∷ [])) × (g ≡ f)
 unfolding printedLine
-turn-refused {target} {n} {k} {l} {t} {f} {g} a h =
-    let e : a .answer ≡ refused k = answers-unique target l (a .answer) (refused k) (a .answers) h in (
-      a .text ∙ ap (λ (y : Answer). printedLine target n y f) e,
-      a .files ∙ ap (λ (y : Answer). filesAfter target y f) e,
-    )
+turn-refused a h = turn-answered a h
 
 pub turn-refused-at : {target : Target} {n k p : ℕ} {l t : List ℕ} {f g : Files} → Turn target n l f t g → Answers target l (refused-at k p)
     → (t ≡ decimal n ++ bytes " " ++ ((bytes "refused " ++ decimal k) ++ bytes " " ++ decimal p) ++ (lineFeed ∷ [])) × (g ≡ f)
 unfolding printedLine
-turn-refused-at {target} {n} {k} {p} {l} {t} {f} {g} a h =
-    let e : a .answer ≡ refused-at k p = answers-unique target l (a .answer) (refused-at k p) (a .answers) h in (
-      a .text ∙ ap (λ (y : Answer). printedLine target n y f) e,
-      a .files ∙ ap (λ (y : Answer). filesAfter target y f) e,
-    )
+turn-refused-at a h = turn-answered a h
 
 -- each line of a listing has its turn at the listing's target, with the number and on the files that the lines before it have left
 pub record FirstTurn (target : Target) (n : ℕ) (l : List ℕ) (ls : List (List ℕ)) (f : Files) (t : List ℕ) (h : Files) : Type 0 where
