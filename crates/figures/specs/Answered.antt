@@ -213,12 +213,12 @@ abbrev text : List String → List ℕ
 text [] = []
 text (l ∷ ls) = bytes l ++ (lineFeed ∷ text ls)
 
--- T-07: what each target is too old for, and what it is not; 6 comes before 12 at each
+-- T-07: what each target is too old for, and what it is not; 6 comes before 12 at the three that are too old for the second line
 abbrev cards : List ℕ
 cards =
     text
     ("vadd.u32.u32.u32 %r63, %r1, %r2;"
-    ∷ "vadd.u32.u32.u32 %r64, %r2, %r3;"
+    ∷ "vset4.u32.u32.lt %r64, %r2, %r3, %r0;"
     ∷ "vset4.u32.u32.lt %r10, %r1, %r2, %r0;"
     ∷ "set.lt.u32.f64 %r1, %rd2, %rd3;"
     ∷ "selp.b64 %rd1, %rd2, %rd3, %p1;"
@@ -276,7 +276,7 @@ listings =
     ∷ "%r63 03030303"
     ∷ "%rd1 0000000000000003"
     ∷ [])
-    -- no line prints nothing; a line feed alone is an empty line; a last line without one counts
+    -- without a line nothing is printed; a line feed alone is an empty line; a last line without one counts
     ∷ prints Sm30 [] []
     ∷ prints Sm30 (lineFeed ∷ []) ("1 refused 2 0" ∷ [])
     ∷ prints Sm10 (bytes "vavrg") ("1 refused 2 5" ∷ [])

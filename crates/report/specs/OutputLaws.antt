@@ -7,13 +7,15 @@ use mathlib.Core.Path.{_≡_, refl, sym, ap, ap₂, _∙_, subst}
 use mathlib.Core.Bool.{Bool, true, false, cond}
 use mathlib.Core.List.{List, [], _∷_, _++_, append-assoc, append-nil}
 use lib.ListN.{length, take, drop, length-append, length-drop, drop-of-length-le}
-use lib.Seq.{drop-drop, append-snoc}
+use lib.Seq.{drop-drop, append-snoc, take-at}
 use lib.Dec.{eqb, ltb}
 use borrow.Author.Tests.{ltb-true, ltb-false}
 use Rattle.record.specs.declared.Target.{Target}
 use Rattle.record.specs.Registers.{Files}
 use Rattle.rules.specs.Reading.{Answer, read, refused, refused-at, Answers}
-use Rattle.rules.specs.Executing.{run}
+use Rattle.rules.specs.Executing.{done, skipped, run}
+use Rattle.rules.specs.Executing as executing
+use Rattle.rules.specs.StandardLine.{standard}
 use Rattle.rules.specs.Writing.{front}
 use Rattle.read.specs.Mirror.{readOf}
 use Rattle.read.specs.Answering.{answers, answers-unique}
@@ -51,6 +53,23 @@ pub turn-runs : {target : Target} {n : ℕ} {l t : List ℕ} {f g : Files} {x : 
     → (t ≡ decimal n ++ bytes " " ++ executedText (run target x f .answer) x ++ (lineFeed ∷ [])) × (g ≡ run target x f .files)
 unfolding printedLine
 turn-runs a h = turn-answered a h
+
+-- and says so: done, skipped, or executing's refusal
+turn-said : {target : Target} {n : ℕ} {l t : List ℕ} {f g : Files} {x : Record} {y : executing.Answer} → Turn target n l f t g → Answers target l (read x)
+    → run target x f .answer ≡ y → t ≡ decimal n ++ bytes " " ++ executedText y x ++ (lineFeed ∷ [])
+turn-said {n = n} {x = x} a h e = turn-runs a h .0 ∙ ap (λ (y : executing.Answer). decimal n ++ bytes " " ++ executedText y x ++ (lineFeed ∷ [])) e
+
+pub turn-done : {target : Target} {n : ℕ} {l t : List ℕ} {f g : Files} {x : Record} → Turn target n l f t g → Answers target l (read x) → run target x f .answer ≡ done
+    → t ≡ decimal n ++ bytes " " ++ (bytes "done " ++ standard x) ++ (lineFeed ∷ [])
+turn-done a h e = turn-said a h e
+
+pub turn-skipped : {target : Target} {n : ℕ} {l t : List ℕ} {f g : Files} {x : Record} → Turn target n l f t g → Answers target l (read x) → run target x f .answer ≡ skipped
+    → t ≡ decimal n ++ bytes " " ++ (bytes "skipped " ++ standard x) ++ (lineFeed ∷ [])
+turn-skipped a h e = turn-said a h e
+
+pub turn-not-executed : {target : Target} {n k : ℕ} {l t : List ℕ} {f g : Files} {x : Record} → Turn target n l f t g → Answers target l (read x) → run target x f .answer ≡ executing.refused k
+    → t ≡ decimal n ++ bytes " " ++ (bytes "refused " ++ decimal k) ++ (lineFeed ∷ [])
+turn-not-executed a h e = turn-said a h e
 
 -- a line that is refused at it prints its number, and its place where it has one, and moves nothing
 pub turn-refused : {target : Target} {n k : ℕ} {l t : List ℕ} {f g : Files} → Turn target n l f t g → Answers target l (refused k)
@@ -92,8 +111,12 @@ all-turns target n (l ∷ ls) f = more (turn-of target n l f) (all-turns target 
 abbrev pub computed : Target → List ℕ → List ℕ
 computed target s = turnsText target 1 (linesOf s) startFiles ++ registersText (turnsFiles target (linesOf s) startFiles)
 
-pub computed-output : (target : Target) (s : List ℕ) → length s ≤ listingLimit → Output target s (computed target s)
+pub computed-output : (target : Target) (s : List ℕ) → length s ≤ 65536 → Output target s (computed target s)
 computed-output target s h = printed h (all-turns target 1 (linesOf s) startFiles)
+
+-- a longer listing has this output alone
+pub too-long-output : (target : Target) (s : List ℕ) → 65536 < length s → Output target s (bytes "input too long" ++ (lineFeed ∷ []))
+too-long-output target s h = too-long h
 
 pub turns-one : {target : Target} {n : ℕ} {ls : List (List ℕ)} {t u : List ℕ} {f g h : Files} → Turns target n ls f t g → Turns target n ls f u h → (t ≡ u) × (g ≡ h)
 turns-one none none = (refl, refl)
@@ -268,6 +291,10 @@ prints-one {target} {s} {out} x y p q =
       files = i .files;
       buffer = p .buffer ∙ ap (λ (t : List ℕ). front t out) (i .text) ∙ sym (q .buffer);
     }
+
+-- the text that a call answers the length of stands at the front of its buffer
+pub prints-text : {target : Target} {s out after : List ℕ} {from n e m len : ℕ} {f g : Files} (p : Prints target s from n f out e m len g after) → take len after ≡ p .text
+prints-text {out = out} p = rw (p .buffer, p .length-of) (take-at (p .text) (drop (length (p .text)) out) (length (p .text)) refl)
 
 -- ==== what a caller's loop needs
 
