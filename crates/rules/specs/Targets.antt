@@ -1,5 +1,5 @@
--- Change request T-07, old yard cards: a target goes with each reading and execution, sm_10, sm_13, sm_20 or sm_30. Which records a target allows, and
--- when it flushes. Records, their legality and writing know no target.
+-- Change request T-07, old yard cards: a target goes with each reading and execution, sm_10, sm_13, sm_20 or sm_30. When a target
+-- flushes, and which records it allows. Records, their legality and writing know no target.
 use Prim.Native.Nat.{ℕ}
 use mathlib.Core.Path.{_≡_}
 use mathlib.Core.Bool.{Bool, true, false, _||_}
@@ -29,6 +29,23 @@ generation Sm10 = 10
 generation Sm13 = 13
 generation Sm20 = 20
 generation Sm30 = 30
+
+-- ==== when a target flushes
+
+-- The first two flush f32 subnormals in set, setp and slct whether or not `ftz` stands there; the later two only when it does
+abbrev pub flushesAlways : Target → Bool
+flushesAlways Sm10 = true
+flushesAlways Sm13 = true
+flushesAlways Sm20 = false
+flushesAlways Sm30 = false
+
+abbrev pub flushes : Target → Bool → Bool
+flushes target ftz = flushesAlways target || ftz
+
+-- so c of slct with f32 is flushed
+abbrev pub slctTypeAt : Target → SlctType → SlctType
+slctTypeAt target SlctType.S32 = SlctType.S32
+slctTypeAt target (SlctType.F32 ftz) = SlctType.F32 (flushes target ftz)
 
 -- ==== which records a target allows
 
@@ -65,20 +82,3 @@ allows target x = leb (generation (needs (x .instruction))) (generation target)
 pub record Allowed (target : Target) (x : Record) : Type 0 where
   pub legal : Legal x
   pub allowed : allows target x ≡ true
-
--- ==== when a target flushes
-
--- The first two flush f32 subnormals in set, setp and slct whether or not `ftz` stands there; the later two only when it does
-abbrev pub flushesAlways : Target → Bool
-flushesAlways Sm10 = true
-flushesAlways Sm13 = true
-flushesAlways Sm20 = false
-flushesAlways Sm30 = false
-
-abbrev pub flushes : Target → Bool → Bool
-flushes target ftz = flushesAlways target || ftz
-
--- so c of slct with f32 is flushed
-abbrev pub slctTypeAt : Target → SlctType → SlctType
-slctTypeAt target SlctType.S32 = SlctType.S32
-slctTypeAt target (SlctType.F32 ftz) = SlctType.F32 (flushes target ftz)
