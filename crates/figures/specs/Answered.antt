@@ -214,8 +214,8 @@ text [] = []
 text (l ∷ ls) = bytes l ++ (lineFeed ∷ text ls)
 
 -- T-07: what each target is too old for, and what it is not; 6 comes before 12 at the three that are too old for the second line
-abbrev cards : List ℕ
-cards =
+abbrev cardLines : List ℕ
+cardLines =
     text
     ("vadd.u32.u32.u32 %r63, %r1, %r2;"
     ∷ "vset4.u32.u32.lt %r64, %r2, %r3, %r0;"
@@ -244,9 +244,9 @@ listings =
     ∷ "%r10 01010101"
     ∷ "%p1 1"
     ∷ [])
-    ∷ prints Sm10 cards
+    ∷ prints Sm10 cardLines
     ("1 refused 12" ∷ "2 refused 6 17" ∷ "3 refused 12" ∷ "4 refused 12" ∷ "5 done selp.b64 %rd1, %rd2, %rd3, %p1;" ∷ "%rd1 0000000000000003" ∷ [])
-    ∷ prints Sm13 cards
+    ∷ prints Sm13 cardLines
     ("1 refused 12"
     ∷ "2 refused 6 17"
     ∷ "3 refused 12"
@@ -255,7 +255,7 @@ listings =
     ∷ "%r1 FFFFFFFF"
     ∷ "%rd1 0000000000000003"
     ∷ [])
-    ∷ prints Sm20 cards
+    ∷ prints Sm20 cardLines
     ("1 done vadd.u32.u32.u32 %r63, %r1, %r2;"
     ∷ "2 refused 6 17"
     ∷ "3 refused 12"
@@ -265,7 +265,7 @@ listings =
     ∷ "%r63 03030303"
     ∷ "%rd1 0000000000000003"
     ∷ [])
-    ∷ prints Sm30 cards
+    ∷ prints Sm30 cardLines
     ("1 done vadd.u32.u32.u32 %r63, %r1, %r2;"
     ∷ "2 refused 6 17"
     ∷ "3 done vset4.u32.u32.lt %r10, %r1, %r2, %r0;"

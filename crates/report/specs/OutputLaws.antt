@@ -108,9 +108,11 @@ unfolding turnsText turnsFiles
 all-turns target n [] f = none
 all-turns target n (l ∷ ls) f = more (turn-of target n l f) (all-turns target (suc n) ls (filesAfter target (readOf target l) f))
 
+-- and the output that they make up
 abbrev pub computed : Target → List ℕ → List ℕ
 computed target s = turnsText target 1 (linesOf s) startFiles ++ registersText (turnsFiles target (linesOf s) startFiles)
 
+-- (the limit and the text stand here as document 01 has them, so that neither hangs on a name)
 pub computed-output : (target : Target) (s : List ℕ) → length s ≤ 65536 → Output target s (computed target s)
 computed-output target s h = printed h (all-turns target 1 (linesOf s) startFiles)
 
