@@ -309,3 +309,9 @@ pub enum Target {
     Sm20,
     Sm30,
 }
+
+// How a line is read: as document 01 has it, or strictly (T-09).
+pub enum Mode {
+    Ordinary,
+    Strict,
+}

@@ -4,6 +4,7 @@ pub mod Spelling
 pub mod Grammar
 pub mod StandardLine
 pub mod Targets
+pub mod Strict
 pub mod BytePlaces
 pub mod Reading
 pub mod Writing

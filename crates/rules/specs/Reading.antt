@@ -1,5 +1,5 @@
--- Document 01, which record a line spells, and refusals 1 to 7 (T-07: and 12): said of the line's tree and of the records that it spells. Apart
--- from any reader.
+-- Document 01, which record a line spells, and refusals 1 to 7 (T-07: and 12, T-09: and 15): said of the line's tree and of the records that it
+-- spells. Apart from any reader.
 use Prim.Native.Nat.{ℕ, _+_, _≤_, _<_}
 use mathlib.Core.Path.{_≡_}
 use mathlib.Core.Bool.{Bool, true, false}
@@ -16,11 +16,13 @@ use Rattle.record.specs.declared.Instruction.{Instruction}
 use Rattle.record.specs.declared.Instruction.the-variants.{Arithmetic, Vset, VsetLanes, ArithmeticLanes, Set, Setp, Selp, Slct}
 use Rattle.record.specs.declared.Record.{Record}
 use Rattle.record.specs.declared.Target.{Target}
+use Rattle.record.specs.declared.Mode.{Mode}
 use Rattle.rules.specs.Shape.{Name, registerText, at, OperandTree, pair}
 use Rattle.rules.specs.Names.{headNames}
 use Rattle.rules.specs.Spelling.{operandTrees, writtenTrees}
 use Rattle.rules.specs.Grammar.{LineTree, GuardTree, unguarded, guarded, namesOf, operandsOf, Shaped}
-use Rattle.rules.specs.Targets.{allows, Allowed}
+use Rattle.rules.specs.Targets.{allows}
+use Rattle.rules.specs.Strict.{passes, Readable}
 use Rattle.rules.specs.BytePlaces.{FirstWrong, ShapedLine, guardStart, headStart, nameStart, operandsStart, operandStart, registersOf, FirstOutside}
 
 -- ==== which record a line spells
@@ -73,7 +75,7 @@ pub record Relates (l : List ℕ) (m : Record) : Type 0 where
   pub shaped : Shaped l tree
   pub spells : Spells tree m
 
--- ==== refusals 1 to 7, and 12
+-- ==== refusals 1 to 7, 12 and 15
 
 -- Read, written and executed; T-01 adds the twelve in the third and fourth rows (Refusals: none new)
 abbrev pub opcodes : List Name
@@ -96,34 +98,36 @@ pub record Fits (t : LineTree) (m : Record) : Type 0 where
   pub modifiers : modifiersFit m ≡ true
   pub operands : operandsFit m ≡ true
 
--- the rows of the table, each said of the line alone, 12 of its record at the target. 5 is asked of a head that is in the table, since the row says
--- which operands are right
-pub data Applies (target : Target) (l : List ℕ) : ℕ → Type 0 where
+-- the rows of the table, each said of the line alone, 12 of its record at the target, 15 of its record in the mode. 5 is asked of a head that is in
+-- the table, since the row says which operands are right
+pub data Applies (target : Target) (mode : Mode) (l : List ℕ) : ℕ → Type 0 where
   -- line over 160 bytes
-  too-long : lineLimit < length l → Applies target l 1
+  too-long : lineLimit < length l → Applies target mode l 1
   -- line lacks the shape above
-  shapeless : ((t : LineTree) → Shaped l t → ⊥) → Applies target l 2
+  shapeless : ((t : LineTree) → Shaped l t → ⊥) → Applies target mode l 2
   -- first name of the head is no opcode here
-  unknown : (t : LineTree) → Shaped l t → (Listed (t .opcode) opcodes → ⊥) → Applies target l 3
+  unknown : (t : LineTree) → Shaped l t → (Listed (t .opcode) opcodes → ⊥) → Applies target mode l 3
   -- modifiers not in the table
-  rowless : (t : LineTree) → Shaped l t → ((i : Instruction) → Row (namesOf t) i → ⊥) → Applies target l 4
+  rowless : (t : LineTree) → Shaped l t → ((i : Instruction) → Row (namesOf t) i → ⊥) → Applies target mode l 4
   -- guard or operands wrong in count, kind, `!`, pair or selector
-  unfit : (t : LineTree) → Shaped l t → (i : Instruction) → Row (namesOf t) i → ((m : Record) → Fits t m → ⊥) → Applies target l 5
+  unfit : (t : LineTree) → Shaped l t → (i : Instruction) → Row (namesOf t) i → ((m : Record) → Fits t m → ⊥) → Applies target mode l 5
   -- a register number at or over its file's size
-  outside : (t : LineTree) → Shaped l t → (n : ℕ) (q : Place) → Listed (n, q) (registersOf t) → fileSize q ≤ numberOf q → Applies target l 6
+  outside : (t : LineTree) → Shaped l t → (n : ℕ) (q : Place) → Listed (n, q) (registersOf t) → fileSize q ≤ numberOf q → Applies target mode l 6
   -- both places of a pair are the same predicate
-  equal : (t : LineTree) → Shaped l t → (n : ℕ) → Listed (pair (at (pred n)) (at (pred n))) (operandsOf t) → Applies target l 7
+  equal : (t : LineTree) → Shaped l t → (n : ℕ) → Listed (pair (at (pred n)) (at (pred n))) (operandsOf t) → Applies target mode l 7
   -- T-07: target too old for the record that the line spells
-  too-old : (m : Record) → Relates l m → allows target m ≡ false → Applies target l 12
+  too-old : (m : Record) → Relates l m → allows target m ≡ false → Applies target mode l 12
+  -- T-09: in strict reading, a masked lane's two selectors pick the same part of the same register
+  against-itself : (m : Record) → Relates l m → passes mode m ≡ false → Applies target mode l 15
 
--- Reading: 1 to 7, T-07: 12 after 7,
+-- Reading: 1 to 7, T-07: 12 after 7, T-09: 15 after 12,
 abbrev pub readingOrder : List ℕ
-readingOrder = 1 ∷ 2 ∷ 3 ∷ 4 ∷ 5 ∷ 6 ∷ 7 ∷ 12 ∷ []
+readingOrder = 1 ∷ 2 ∷ 3 ∷ 4 ∷ 5 ∷ 6 ∷ 7 ∷ 12 ∷ 15 ∷ []
 
 -- each looked at only when the earlier ones don't apply: n is the first of the numbers that applies
-pub data FirstOf (target : Target) (l : List ℕ) (n : ℕ) : List ℕ → Type 0 where
-  this : {ns : List ℕ} → Applies target l n → FirstOf target l n (n ∷ ns)
-  next : {k : ℕ} {ns : List ℕ} → (Applies target l k → ⊥) → FirstOf target l n ns → FirstOf target l n (k ∷ ns)
+pub data FirstOf (target : Target) (mode : Mode) (l : List ℕ) (n : ℕ) : List ℕ → Type 0 where
+  this : {ns : List ℕ} → Applies target mode l n → FirstOf target mode l n (n ∷ ns)
+  next : {k : ℕ} {ns : List ℕ} → (Applies target mode l k → ⊥) → FirstOf target mode l n ns → FirstOf target mode l n (k ∷ ns)
 
 -- ==== where the line went wrong
 
@@ -157,9 +161,9 @@ pub data Placed (l : List ℕ) : ℕ → ℕ → Type 0 where
   -- for 7 the second place (of d: where 5 does not apply, only d of setp is a pair)
   at-second : (t : LineTree) → Shaped l t → (n : ℕ) → t .first ≡ pair (at (pred n)) (at (pred n)) → Placed l 7 (operandsStart t + length (registerText (pred n) ++ bytes "|"))
 
--- 1 carries none; T-07: nor does 12
+-- 1 carries none; T-07: nor does 12; T-09: nor 15
 abbrev pub placeless : List ℕ
-placeless = 1 ∷ 12 ∷ []
+placeless = 1 ∷ 12 ∷ 15 ∷ []
 
 -- ==== the answer of reading
 
@@ -169,9 +173,9 @@ pub data Answer : Type 0 where
   refused : ℕ → Answer
   refused-at : ℕ → ℕ → Answer
 
--- accepted exactly when the grammar relates the line to a legal record, T-07: that the target allows; else the first refusal that applies, with
--- its place
-pub data Answers (target : Target) (l : List ℕ) : Answer → Type 0 where
-  accepts : (m : Record) → Relates l m → Allowed target m → Answers target l (read m)
-  refuses : {n : ℕ} → FirstOf target l n readingOrder → Listed n placeless → Answers target l (refused n)
-  refuses-at : {n p : ℕ} → FirstOf target l n readingOrder → Placed l n p → Answers target l (refused-at n p)
+-- accepted exactly when the grammar relates the line to a legal record, T-07: that the target allows, T-09: and that in strict reading is not against
+-- itself; else the first refusal that applies, with its place
+pub data Answers (target : Target) (mode : Mode) (l : List ℕ) : Answer → Type 0 where
+  accepts : (m : Record) → Relates l m → Readable target mode m → Answers target mode l (read m)
+  refuses : {n : ℕ} → FirstOf target mode l n readingOrder → Listed n placeless → Answers target mode l (refused n)
+  refuses-at : {n p : ℕ} → FirstOf target mode l n readingOrder → Placed l n p → Answers target mode l (refused-at n p)
