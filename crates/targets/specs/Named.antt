@@ -1,23 +1,16 @@
 -- The target that a name names: laws join it to the names of the rules. Assumes nothing.
 use Prim.Native.Nat.{ℕ}
 use native.Mathlib.Omega.{arith}
-use mathlib.Core.Path.{_≡_, refl, ap, ap₂, _∙_}
-use mathlib.Core.Bool.{Bool, true, false, _&&_, cond}
+use mathlib.Core.Path.{_≡_, refl, ap, _∙_}
+use mathlib.Core.Bool.{Bool, true, false, cond}
 use mathlib.Core.List.{List, [], _∷_, map}
-use lib.Dec.{eqb}
-use borrow.Author.Tests.{eqb-true}
 use Rattle.signs.specs.Text.{bytes}
+use Rattle.text.specs.Same.{sameText, same-text}
 use Rattle.record.specs.declared.Target.{Target}
 use Rattle.record.specs.declared.Target.the-variants.{Sm10, Sm13, Sm20, Sm30}
 use Rattle.rules.specs.Targets.{targetName}
 use Rattle.targets.specs.declared.Named.{Named}
 use Rattle.targets.specs.declared.Named.the-variants.{Is, Unknown}
-
-unfoldable pub sameText : List ℕ → List ℕ → Bool
-sameText [] [] = true
-sameText [] (b ∷ k) = false
-sameText (a ∷ l) [] = false
-sameText (a ∷ l) (b ∷ k) = eqb a b && sameText l k
 
 unfoldable pub namedOf : List ℕ → Named
 namedOf l =
@@ -41,20 +34,6 @@ pub names-figure :
     ≡ Is Sm10 ∷ Is Sm13 ∷ Is Sm20 ∷ Is Sm30 ∷ Unknown ∷ Unknown ∷ Unknown ∷ Unknown ∷ []
 unfolding namedOf sameText
 names-figure = refl
-
-off : {A : Type 0} → false ≡ true → A
-off e = let z : _≡_ {A = ℕ} 0 1 = cc in absurd (omega arith)
-
-same-text : (l k : List ℕ) → sameText l k ≡ true → l ≡ k
-unfolding sameText
-same-text [] [] e = refl
-same-text [] (b ∷ k) e = off e
-same-text (a ∷ l) [] e = off e
-same-text (a ∷ l) (b ∷ k) e = go (eqb a b) refl e (same-text l k)
-  where
-    go : (t : Bool) → eqb a b ≡ t → t && sameText l k ≡ true → (sameText l k ≡ true → l ≡ k) → a ∷ l ≡ b ∷ k
-    go true h q f = ap₂ _∷_ (eqb-true a b h) (f q)
-    go false h q f = off q
 
 -- and nothing else is one
 pub named-name : (l : List ℕ) (t : Target) → namedOf l ≡ Is t → l ≡ targetName t

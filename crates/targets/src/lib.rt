@@ -8,7 +8,7 @@ use record::SlctType;
 use record::Target;
 ghost use mathlib.Core.Path.{_≡_};
 ghost use Rattle.rules.specs.Targets as paper;
-ghost use Rattle.targets.specs.Named.{sameText, namedOf};
+ghost use Rattle.targets.specs.Named.{namedOf};
 
 // The target of that name, or none has it.
 pub enum Named {
@@ -18,35 +18,19 @@ pub enum Named {
 
 // ---- names
 
-fn same(a: &[u8], b: &[u8]) -> bool
-    ensures { λ r. ⌜ r ≡ sameText (now (a .entry)) (now (b .entry)) ⌝ }
-{
-    if a.len() != b.len() {
-        return false;
-    }
-    let mut i = 0;
-    while i < a.len() {
-        if a[i] != b[i] {
-            return false;
-        }
-        i += 1;
-    }
-    true
-}
-
 pub fn target_of(name: &[u8]) -> Named
     ensures { λ r. ⌜ r ≡ namedOf (now (name .entry)) ⌝ }
 {
-    if same(name, b"sm_10") {
+    if text::same(name, b"sm_10") {
         return Named::Is(Target::Sm10);
     }
-    if same(name, b"sm_13") {
+    if text::same(name, b"sm_13") {
         return Named::Is(Target::Sm13);
     }
-    if same(name, b"sm_20") {
+    if text::same(name, b"sm_20") {
         return Named::Is(Target::Sm20);
     }
-    if same(name, b"sm_30") {
+    if text::same(name, b"sm_30") {
         return Named::Is(Target::Sm30);
     }
     Named::Unknown

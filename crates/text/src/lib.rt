@@ -1,10 +1,11 @@
-// Texts put into a lent buffer from a place on. What has no room is left out, so that no text asks for any.
+// Texts put into a lent buffer from a place on. What has no room is left out, so that no text asks for any. And whether two texts are the same.
 ghost use mathlib.Core.Path.{_≡_};
 ghost use mathlib.Core.List.{[], _∷_};
 ghost use Prim.Native.Nat.{_+_, _-_, _%_, _≤_, _<_};
 ghost use lib.ListN.{length};
 ghost use lib.Seq.{paste};
 ghost use Rattle.text.specs.Buffer.{buffer, Puts};
+ghost use Rattle.text.specs.Same.{sameText};
 ghost use Rattle.signs.specs.Digits.{zeroByte, decimal, hexDigit, hex};
 ghost use Rattle.base.specs.Pack.{unpacked, spelled};
 
@@ -128,4 +129,22 @@ pub fn put_all(out: &mut [u8], at: usize, texts: &[u64]) -> usize
         k += 1;
     }
     next
+}
+
+// ---- two texts
+
+pub fn same(a: &[u8], b: &[u8]) -> bool
+    ensures { λ r. ⌜ r ≡ sameText (now (a .entry)) (now (b .entry)) ⌝ }
+{
+    if a.len() != b.len() {
+        return false;
+    }
+    let mut i = 0;
+    while i < a.len() {
+        if a[i] != b[i] {
+            return false;
+        }
+        i += 1;
+    }
+    true
 }

@@ -1,11 +1,11 @@
-use Rattle.targets.proofs.Laws.{other-length, same-here, other-here, same-all}
-use Rattle.targets.specs.Named.{sameText}
+use Rattle.text.proofs.Laws.{other-length, same-here, other-here, same-all}
+use Rattle.text.specs.Same.{sameText}
 use Prim.Native.Nat.{_≤_, _-_}
 use native.Mathlib.Omega.{arith}
 use lib.ListN.{length, drop}
 use mathlib.Core.Path.{_≡_, refl}
-use Rattle.targets.proofs.same.Statement.{statement}
-use Rattle.targets.proofs.same.Tie as tie
+use Rattle.text.proofs.same.Statement.{statement}
+use Rattle.text.proofs.same.Tie as tie
 
 abbrev Inv-loop : tie.InvT-loop
 Inv-loop a b i₀ i = (i ≤ length a) × (sameText a b ≡ sameText (drop i a) (drop i b))

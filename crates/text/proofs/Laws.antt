@@ -9,7 +9,7 @@ use lib.ListN.{getD, drop, length, drop-of-length-le}
 use lib.Seq.{drop-cons}
 use lib.Dec.{eqb}
 use borrow.Author.Tests.{eq-eqb, ne-eqb}
-use Rattle.targets.specs.Named.{sameText}
+use Rattle.text.specs.Same.{sameText}
 
 pub other-length : (a b : List ℕ) → (length a ≡ length b → ⊥) → false ≡ sameText a b
 unfolding sameText
