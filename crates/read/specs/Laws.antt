@@ -15,6 +15,7 @@ use Rattle.record.specs.declared.Guard.the-variants.{Always, When}
 use Rattle.record.specs.declared.Instruction.{Instruction}
 use Rattle.record.specs.declared.Record.{Record}
 use Rattle.record.specs.declared.Target.{Target}
+use Rattle.record.specs.declared.Mode.{Mode}
 use Rattle.record.specs.declared.File.the-variants.{Words, Halves, Doubles, Preds}
 use Rattle.record.specs.Registers.{reg}
 use Rattle.rules.specs.Shape.{Name}
@@ -23,9 +24,10 @@ use Rattle.rules.specs.Grammar.GoodNames.{more as name-more}
 use Rattle.rules.specs.Grammar.GoodOperands.{more as operand-more}
 use Rattle.rules.specs.Grammar.{LineTree, GuardTree, unguarded, guarded, namesOf, operandsOf, Shaped}
 use Rattle.rules.specs.Targets.{allows, Allowed}
+use Rattle.rules.specs.Strict.{passes, Readable}
 use Rattle.rules.specs.Reading.{GuardSpells, Spells, Relates, lineLimit, opcodes, Row, Fits}
 use Rattle.signs.specs.Lists.{Listed}
-use Rattle.read.specs.Refuses.{Refuses, over-160, no-shape, no-opcode, no-row, no-fit, out-of-file, same-pair, old-target, Decides, decides-read, decides-refused}
+use Rattle.read.specs.Refuses.{Refuses, over-160, no-shape, no-opcode, no-row, no-fit, out-of-file, same-pair, old-target, same-part, Decides, decides-read, decides-refused}
 use Rattle.tree.specs.Seen.{seen, seenGuard, seenHead, seenOperands}
 use Rattle.tree.specs.Blank.{blank}
 use Rattle.tree.specs.declared.Guarding.{Guarding}
@@ -112,8 +114,8 @@ module _ (l : List ℕ) (short : length l ≤ lineLimit) (t : LineTree) (shaped 
       (shape-complete t (shaped .good) (rw (shaped .text) short))
 
   -- what the reader says of it, by its tree
-  abbrev said : Target → Found → Filled → Verdict
-  said target found filled = decidedBy target false true (candidateBy (seenGuard (t .guard)) found filled)
+  abbrev said : Target → Mode → Found → Filled → Verdict
+  said target mode found filled = decidedBy target mode false true (candidateBy (seenGuard (t .guard)) found filled)
 
   abbrev found : Found
   found = rowOf (seenHead (namesOf t))
@@ -121,16 +123,16 @@ module _ (l : List ℕ) (short : length l ≤ lineLimit) (t : LineTree) (shaped 
   abbrev filledBy : Found → Filled
   filledBy f = filledOf (instructionIn f) (seenOperands (operandsOf t))
 
-  is-said : (target : Target) → verdictOf target l ≡ said target found (filledBy found)
+  is-said : (target : Target) (mode : Mode) → verdictOf target mode l ≡ said target mode found (filledBy found)
   unfolding verdictOf candidateOf
-  is-said target = rw (le-ltb lineLimit (length l) short, is-good .0, is-good .1)
+  is-said target mode = rw (le-ltb lineLimit (length l) short, is-good .0, is-good .1)
 
-  pub spelled-said : (target : Target) (m : Record) → Spells t m
-      → verdictOf target l ≡ decidedBy target false true (record { spelled = m; opcode = true; row = modifiersFit m; fit = operandsFit m })
-  spelled-said target m s =
+  pub spelled-said : (target : Target) (mode : Mode) (m : Record) → Spells t m
+      → verdictOf target mode l ≡ decidedBy target mode false true (record { spelled = m; opcode = true; row = modifiersFit m; fit = operandsFit m })
+  spelled-said target mode m s =
       let f = spelled-found t m s in
       let g = guard-found (t .guard) (m .guard) (s .guard) in
-      is-said target ∙ rw (f .0, f .1, g .0, g .1, fit-blank (m .instruction))
+      is-said target mode ∙ rw (f .0, f .1, g .0, g .1, fit-blank (m .instruction))
 
   -- what is found and passes all stages is spelled
   found-spells : (i j : Instruction) → found ≡ Found.Row i → filledBy (Found.Row i) ≡ Filled.Full j → guardGood (seenGuard (t .guard)) ≡ true
@@ -144,28 +146,32 @@ module _ (l : List ℕ) (short : length l ≤ lineLimit) (t : LineTree) (shaped 
   -- ---- each stage gives the answer that the grammar gives
 
   -- the line spells m, which fits
-  fits-answers : (target : Target) (m : Record) → Fits t m → Decides target l (decidedBy target false true (record { spelled = m; opcode = true; row = true; fit = true }))
-  fits-answers target m f = go (numbersInRange m) refl (pairApart m) refl (allows target m) refl
+  fits-answers : (target : Target) (mode : Mode) (m : Record) → Fits t m → Decides target mode l (decidedBy target mode false true (record { spelled = m; opcode = true; row = true; fit = true }))
+  fits-answers target mode m f = go (numbersInRange m) refl (pairApart m) refl (allows target m) refl (passes mode m) refl
     where
       related : Relates l m
       related = record { short = short; tree = t; shaped = shaped; spells = f .spells }
 
-      go : (x : Bool) → numbersInRange m ≡ x → (y : Bool) → pairApart m ≡ y → (z : Bool) → allows target m ≡ z
-          → Decides target l (decided (firstReading false false false false false (not x) (not y) (not z)) m)
-      go false e y q z a = decides-refused (out-of-file short t shaped m f e)
-      go true e false q z a = decides-refused (same-pair short t shaped m f e q)
-      go true e true q false a = decides-refused (old-target m related (all-legal m (f .modifiers) (f .operands) e q) a)
-      go true e true q true a = decides-read m related (record { legal = all-legal m (f .modifiers) (f .operands) e q; allowed = a })
+      here : numbersInRange m ≡ true → pairApart m ≡ true → allows target m ≡ true → Allowed target m
+      here e q a = record { legal = all-legal m (f .modifiers) (f .operands) e q; allowed = a }
+
+      go : (x : Bool) → numbersInRange m ≡ x → (y : Bool) → pairApart m ≡ y → (z : Bool) → allows target m ≡ z → (w : Bool) → passes mode m ≡ w
+          → Decides target mode l (decided (firstReading false false false false false (not x) (not y) (not z) (not w)) m)
+      go false e y q z a w b = decides-refused (out-of-file short t shaped m f e)
+      go true e false q z a w b = decides-refused (same-pair short t shaped m f e q)
+      go true e true q false a w b = decides-refused (old-target m related (all-legal m (f .modifiers) (f .operands) e q) a)
+      go true e true q true a false b = decides-refused (same-part m related (here e q a) b)
+      go true e true q true a true b = decides-read m related (record { allowed = here e q a; passed = b })
 
   -- the row fits; the operands are j's, or wrong
-  operands-answer : (target : Target) (i : Instruction) → found ≡ Found.Row i → instructionModifiersFit i ≡ true → (x : Filled) → filledBy (Found.Row i) ≡ x
-      → Decides target l (decidedBy target false true (record {
+  operands-answer : (target : Target) (mode : Mode) (i : Instruction) → found ≡ Found.Row i → instructionModifiersFit i ≡ true → (x : Filled) → filledBy (Found.Row i) ≡ x
+      → Decides target mode l (decidedBy target mode false true (record {
         spelled = recordOf (guardIn (seenGuard (t .guard))) (filledIn x);
         opcode = true;
         row = true;
         fit = guardGood (seenGuard (t .guard)) && fullIs x && operandsFit (recordOf (guardIn (seenGuard (t .guard))) (filledIn x));
       }))
-  operands-answer target i e f x q = go x q (guardGood (seenGuard (t .guard))) refl
+  operands-answer target mode i e f x q = go x q (guardGood (seenGuard (t .guard))) refl
     where
       row : Row (namesOf t) i
       row = record { names = row-sound (namesOf t) i (name-more (shaped .good .opcode) (shaped .good .modifiers)) e .0; fit = f }
@@ -185,7 +191,7 @@ module _ (l : List ℕ) (short : length l ≤ lineLimit) (t : LineTree) (shaped 
       none-guarded w m h = off (guard-found (t .guard) (m .guard) (h .spells .guard) .0) w
 
       go : (x : Filled) → filledBy (Found.Row i) ≡ x → (b : Bool) → guardGood g ≡ b
-          → Decides target l (decidedBy target false true (record { spelled = recordOf (guardIn g) (filledIn x); opcode = true; row = true; fit = b && fullIs x && operandsFit (recordOf (guardIn g) (filledIn x)) }))
+          → Decides target mode l (decidedBy target mode false true (record { spelled = recordOf (guardIn g) (filledIn x); opcode = true; row = true; fit = b && fullIs x && operandsFit (recordOf (guardIn g) (filledIn x)) }))
       go x q false b = decides-refused (no-fit short t shaped i row (none-guarded b))
       go (Filled.Wrong k) q true b = decides-refused (no-fit short t shaped i row (none-full k q))
       go (Filled.Full j) q true b = fit (operandsFit (recordOf (guardIn g) j)) refl
@@ -194,17 +200,17 @@ module _ (l : List ℕ) (short : length l ≤ lineLimit) (t : LineTree) (shaped 
           s = found-spells i j e q b
 
           fit : (c : Bool) → operandsFit (recordOf (guardIn g) j) ≡ c
-              → Decides target l (decidedBy target false true (record { spelled = recordOf (guardIn g) j; opcode = true; row = true; fit = c }))
-          fit true c = fits-answers target (recordOf (guardIn g) j) (record { spells = s .0; modifiers = sym (fit-blank j) ∙ ap instructionModifiersFit (s .1) ∙ f; operands = c })
+              → Decides target mode l (decidedBy target mode false true (record { spelled = recordOf (guardIn g) j; opcode = true; row = true; fit = c }))
+          fit true c = fits-answers target mode (recordOf (guardIn g) j) (record { spells = s .0; modifiers = sym (fit-blank j) ∙ ap instructionModifiersFit (s .1) ∙ f; operands = c })
           fit false c =
               decides-refused
               (no-fit short t shaped i row λ m h. off (h .operands) (ap operandsFit (seen-one t t refl m (recordOf (guardIn g) j) (h .spells) (s .0)) ∙ c))
 
-  found-answers : (target : Target) (f : Found) → found ≡ f → Decides target l (said target f (filledBy f))
-  found-answers target Found.NoOpcode e = decides-refused (no-opcode short t shaped (no-opcode-known (t .opcode) (t .modifiers) (shaped .good .opcode) e))
-  found-answers target (Found.Wrong k) e =
+  found-answers : (target : Target) (mode : Mode) (f : Found) → found ≡ f → Decides target mode l (said target mode f (filledBy f))
+  found-answers target mode Found.NoOpcode e = decides-refused (no-opcode short t shaped (no-opcode-known (t .opcode) (t .modifiers) (shaped .good .opcode) e))
+  found-answers target mode (Found.Wrong k) e =
       decides-refused (no-row short t shaped (wrong-known (t .opcode) (t .modifiers) k (shaped .good .opcode) e) λ i r. wrong-no-row (namesOf t) k e i (r .names))
-  found-answers target (Found.Row i) e = fit (instructionModifiersFit i) refl
+  found-answers target mode (Found.Row i) e = fit (instructionModifiersFit i) refl
     where
       r : (namesOf t ≡ headNames i) × (blank i ≡ i)
       r = row-sound (namesOf t) i (name-more (shaped .good .opcode) (shaped .good .modifiers)) e
@@ -215,68 +221,68 @@ module _ (l : List ℕ) (short : length l ≤ lineLimit) (t : LineTree) (shaped 
           let z = same-row j i (sym (q .names) ∙ r .0) in
           off (q .fit) (sym (fit-blank j) ∙ ap instructionModifiersFit z ∙ fit-blank i ∙ w)
 
-      fit : (b : Bool) → instructionModifiersFit i ≡ b → Decides target l (decidedBy target false true (record {
+      fit : (b : Bool) → instructionModifiersFit i ≡ b → Decides target mode l (decidedBy target mode false true (record {
         spelled = recordOf (guardIn (seenGuard (t .guard))) (filledIn (filledBy (Found.Row i)));
         opcode = true;
         row = b;
         fit = guardGood (seenGuard (t .guard)) && fullIs (filledBy (Found.Row i)) && operandsFit (recordOf (guardIn (seenGuard (t .guard))) (filledIn (filledBy (Found.Row i))));
       }))
-      fit true w = operands-answer target i e w (filledBy (Found.Row i)) refl
+      fit true w = operands-answer target mode i e w (filledBy (Found.Row i)) refl
       fit false w = decides-refused (no-row short t shaped (row-listed i (t .opcode) (t .modifiers) (r .0)) (unfit w))
 
-  pub shaped-answers : (target : Target) → Decides target l (verdictOf target l)
-  shaped-answers target = subst (Decides target l) (sym (is-said target)) (found-answers target found refl)
+  pub shaped-answers : (target : Target) (mode : Mode) → Decides target mode l (verdictOf target mode l)
+  shaped-answers target mode = subst (Decides target mode l) (sym (is-said target mode)) (found-answers target mode found refl)
 
 -- ==== every line
 
 -- every line gets the answer that the grammar gives it
-pub decides : (target : Target) (l : List ℕ) → Decides target l (verdictOf target l)
+pub decides : (target : Target) (mode : Mode) (l : List ℕ) → Decides target mode l (verdictOf target mode l)
 unfolding verdictOf
-decides target l = go (ltb lineLimit (length l)) refl
+decides target mode l = go (ltb lineLimit (length l)) refl
   where
-    shapes : length l ≤ lineLimit → (b : Bool) → shapeOf l .good ≡ b → Decides target l (decidedBy target false b (candidateOf (shapeOf l .parts)))
+    shapes : length l ≤ lineLimit → (b : Bool) → shapeOf l .good ≡ b → Decides target mode l (decidedBy target mode false b (candidateOf (shapeOf l .parts)))
     shapes h true e =
         let s = shape-sound l h e in
-        subst (Decides target l) (rw (le-ltb lineLimit (length l) h, e)) (shaped-answers l h (s .tree) (s .shaped) target)
+        subst (Decides target mode l) (rw (le-ltb lineLimit (length l) h, e)) (shaped-answers l h (s .tree) (s .shaped) target mode)
     shapes h false e = decides-refused (no-shape h λ t s. off (is-good l h t s .0) e)
 
-    go : (b : Bool) → ltb lineLimit (length l) ≡ b → Decides target l (decidedBy target b (shapeOf l .good) (candidateOf (shapeOf l .parts)))
+    go : (b : Bool) → ltb lineLimit (length l) ≡ b → Decides target mode l (decidedBy target mode b (shapeOf l .good) (candidateOf (shapeOf l .parts)))
     go true e = decides-refused (over-160 (ltb-true lineLimit (length l) e))
     go false e = shapes (ltb-false lineLimit (length l) e) (shapeOf l .good) refl
 
 -- ==== and no other
 
 module _ (l : List ℕ) (short : length l ≤ lineLimit) (t : LineTree) (shaped : Shaped l t) where
-  found-only : (target : Target) (a : Verdict) → ((f : Found) → found l short t shaped ≡ f → said l short t shaped target f (filledBy l short t shaped f) ≡ a)
-      → verdictOf target l ≡ a
-  found-only target a k = is-said l short t shaped target ∙ k (found l short t shaped) refl
+  found-only : (target : Target) (mode : Mode) (a : Verdict) → ((f : Found) → found l short t shaped ≡ f → said l short t shaped target mode f (filledBy l short t shaped f) ≡ a)
+      → verdictOf target mode l ≡ a
+  found-only target mode a k = is-said l short t shaped target mode ∙ k (found l short t shaped) refl
 
   row-of : (i : Instruction) → found l short t shaped ≡ Found.Row i → namesOf t ≡ headNames i
   row-of i e = row-sound (namesOf t) i (name-more (shaped .good .opcode) (shaped .good .modifiers)) e .0
 
-  no-opcode-only : (target : Target) → (Listed (t .opcode) opcodes → ⊥) → verdictOf target l ≡ Verdict.Numbered 3
-  no-opcode-only target k = found-only target (Verdict.Numbered 3) go
+  no-opcode-only : (target : Target) (mode : Mode) → (Listed (t .opcode) opcodes → ⊥) → verdictOf target mode l ≡ Verdict.Numbered 3
+  no-opcode-only target mode k = found-only target mode (Verdict.Numbered 3) go
     where
-      go : (f : Found) → found l short t shaped ≡ f → said l short t shaped target f (filledBy l short t shaped f) ≡ Verdict.Numbered 3
+      go : (f : Found) → found l short t shaped ≡ f → said l short t shaped target mode f (filledBy l short t shaped f) ≡ Verdict.Numbered 3
       go Found.NoOpcode e = refl
       go (Found.Wrong j) e = absurd (k (wrong-known (t .opcode) (t .modifiers) j (shaped .good .opcode) e))
       go (Found.Row i) e = absurd (k (row-listed i (t .opcode) (t .modifiers) (row-of i e)))
 
-  no-row-only : (target : Target) → Listed (t .opcode) opcodes → ((i : Instruction) → Row (namesOf t) i → ⊥) → verdictOf target l ≡ Verdict.Numbered 4
-  no-row-only target o k = found-only target (Verdict.Numbered 4) go
+  no-row-only : (target : Target) (mode : Mode) → Listed (t .opcode) opcodes → ((i : Instruction) → Row (namesOf t) i → ⊥) → verdictOf target mode l ≡ Verdict.Numbered 4
+  no-row-only target mode o k = found-only target mode (Verdict.Numbered 4) go
     where
       unfit : (i : Instruction) → namesOf t ≡ headNames i → (b : Bool) → instructionModifiersFit i ≡ b → instructionModifiersFit i ≡ false
       unfit i n true e = absurd (k i (record { names = n; fit = e }))
       unfit i n false e = e
 
-      go : (f : Found) → found l short t shaped ≡ f → said l short t shaped target f (filledBy l short t shaped f) ≡ Verdict.Numbered 4
+      go : (f : Found) → found l short t shaped ≡ f → said l short t shaped target mode f (filledBy l short t shaped f) ≡ Verdict.Numbered 4
       go Found.NoOpcode e = absurd (no-opcode-known (t .opcode) (t .modifiers) (shaped .good .opcode) e o)
       go (Found.Wrong j) e = refl
       go (Found.Row i) e = rw (unfit i (row-of i e) (instructionModifiersFit i) refl)
 
-  no-fit-only : (target : Target) (i : Instruction) → Row (namesOf t) i → ((m : Record) → Fits t m → ⊥) → verdictOf target l ≡ Verdict.Numbered 5
-  no-fit-only target i r k =
-      is-said l short t shaped target ∙ rw e (rw (fits) (go (filledBy l short t shaped (Found.Row (blank i))) refl (guardGood g) refl))
+  no-fit-only : (target : Target) (mode : Mode) (i : Instruction) → Row (namesOf t) i → ((m : Record) → Fits t m → ⊥) → verdictOf target mode l ≡ Verdict.Numbered 5
+  no-fit-only target mode i r k =
+      is-said l short t shaped target mode ∙ rw e (rw (fits) (go (filledBy l short t shaped (Found.Row (blank i))) refl (guardGood g) refl))
     where
       g : Guarding
       g = seenGuard (t .guard)
@@ -288,7 +294,7 @@ module _ (l : List ℕ) (short : length l ≤ lineLimit) (t : LineTree) (shaped 
       fits = fit-blank i ∙ r .fit
 
       go : (x : Filled) → filledBy l short t shaped (Found.Row (blank i)) ≡ x → (b : Bool) → guardGood g ≡ b
-          → decidedBy target false true (record { spelled = recordOf (guardIn g) (filledIn x); opcode = true; row = true; fit = b && fullIs x && operandsFit (recordOf (guardIn g) (filledIn x)) }) ≡ Verdict.Numbered 5
+          → decidedBy target mode false true (record { spelled = recordOf (guardIn g) (filledIn x); opcode = true; row = true; fit = b && fullIs x && operandsFit (recordOf (guardIn g) (filledIn x)) }) ≡ Verdict.Numbered 5
       go x q false b = refl
       go (Filled.Wrong j) q true b = refl
       go (Filled.Full j) q true b = fit (operandsFit (recordOf (guardIn g) j)) refl
@@ -297,54 +303,58 @@ module _ (l : List ℕ) (short : length l ≤ lineLimit) (t : LineTree) (shaped 
           s = found-spells l short t shaped (blank i) j e q b
 
           fit : (c : Bool) → operandsFit (recordOf (guardIn g) j) ≡ c
-              → decidedBy target false true (record { spelled = recordOf (guardIn g) j; opcode = true; row = true; fit = c }) ≡ Verdict.Numbered 5
+              → decidedBy target mode false true (record { spelled = recordOf (guardIn g) j; opcode = true; row = true; fit = c }) ≡ Verdict.Numbered 5
           fit false c = refl
           fit true c =
               absurd
               (k (recordOf (guardIn g) j)
               (record { spells = s .0; modifiers = sym (fit-blank j) ∙ ap instructionModifiersFit (s .1) ∙ fits; operands = c }))
 
-  fits-only : (target : Target) (m : Record) → Fits t m → verdictOf target l ≡ decidedBy target false true (record { spelled = m; opcode = true; row = true; fit = true })
-  fits-only target m f = spelled-said l short t shaped target m (f .spells) ∙ rw (f .modifiers, f .operands)
+  fits-only : (target : Target) (mode : Mode) (m : Record) → Fits t m → verdictOf target mode l ≡ decidedBy target mode false true (record { spelled = m; opcode = true; row = true; fit = true })
+  fits-only target mode m f = spelled-said l short t shaped target mode m (f .spells) ∙ rw (f .modifiers, f .operands)
 
-no-shape-only : (target : Target) (l : List ℕ) → length l ≤ lineLimit → ((t : LineTree) → Shaped l t → ⊥) → verdictOf target l ≡ Verdict.Numbered 2
+no-shape-only : (target : Target) (mode : Mode) (l : List ℕ) → length l ≤ lineLimit → ((t : LineTree) → Shaped l t → ⊥) → verdictOf target mode l ≡ Verdict.Numbered 2
 unfolding verdictOf
-no-shape-only target l h k = rw (le-ltb lineLimit (length l) h) (go (shapeOf l .good) refl)
+no-shape-only target mode l h k = rw (le-ltb lineLimit (length l) h) (go (shapeOf l .good) refl)
   where
-    go : (b : Bool) → shapeOf l .good ≡ b → decidedBy target false b (candidateOf (shapeOf l .parts)) ≡ Verdict.Numbered 2
+    go : (b : Bool) → shapeOf l .good ≡ b → decidedBy target mode false b (candidateOf (shapeOf l .parts)) ≡ Verdict.Numbered 2
     go true e = let s = shape-sound l h e in absurd (k (s .tree) (s .shaped))
     go false e = refl
 
-over-only : (target : Target) (l : List ℕ) → lineLimit < length l → verdictOf target l ≡ Verdict.Numbered 1
+over-only : (target : Target) (mode : Mode) (l : List ℕ) → lineLimit < length l → verdictOf target mode l ≡ Verdict.Numbered 1
 unfolding verdictOf
-over-only target l h = rw (lt-ltb lineLimit (length l) h)
+over-only target mode l h = rw (lt-ltb lineLimit (length l) h)
 
 -- a line that spells a legal record
-legal-only : (target : Target) (l : List ℕ) (m : Record) → Relates l m → Legal m → verdictOf target l ≡ decidedBy target false true (record { spelled = m; opcode = true; row = true; fit = true })
-legal-only target l m r h =
+legal-only : (target : Target) (mode : Mode) (l : List ℕ) (m : Record) → Relates l m → Legal m → verdictOf target mode l ≡ decidedBy target mode false true (record { spelled = m; opcode = true; row = true; fit = true })
+legal-only target mode l m r h =
     let k = legal-parts m h in
-    fits-only l (r .short) (r .tree) (r .shaped) target m (record { spells = r .spells; modifiers = k .0; operands = k .1 })
+    fits-only l (r .short) (r .tree) (r .shaped) target mode m (record { spells = r .spells; modifiers = k .0; operands = k .1 })
 
-refusal-only : (target : Target) (l : List ℕ) (n : ℕ) → Refuses target l n → verdictOf target l ≡ Verdict.Numbered n
-refusal-only target l n (over-160 h) = over-only target l h
-refusal-only target l n (no-shape h k) = no-shape-only target l h k
-refusal-only target l n (no-opcode h t s k) = no-opcode-only l h t s target k
-refusal-only target l n (no-row h t s o k) = no-row-only l h t s target o k
-refusal-only target l n (no-fit h t s i r k) = no-fit-only l h t s target i r k
-refusal-only target l n (out-of-file h t s m f e) = fits-only l h t s target m f ∙ rw e
-refusal-only target l n (same-pair h t s m f e q) = fits-only l h t s target m f ∙ rw (e, q)
-refusal-only target l n (old-target m r h a) = let k = legal-parts m h in legal-only target l m r h ∙ rw (k .2, k .3, a)
+refusal-only : (target : Target) (mode : Mode) (l : List ℕ) (n : ℕ) → Refuses target mode l n → verdictOf target mode l ≡ Verdict.Numbered n
+refusal-only target mode l n (over-160 h) = over-only target mode l h
+refusal-only target mode l n (no-shape h k) = no-shape-only target mode l h k
+refusal-only target mode l n (no-opcode h t s k) = no-opcode-only l h t s target mode k
+refusal-only target mode l n (no-row h t s o k) = no-row-only l h t s target mode o k
+refusal-only target mode l n (no-fit h t s i r k) = no-fit-only l h t s target mode i r k
+refusal-only target mode l n (out-of-file h t s m f e) = fits-only l h t s target mode m f ∙ rw e
+refusal-only target mode l n (same-pair h t s m f e q) = fits-only l h t s target mode m f ∙ rw (e, q)
+refusal-only target mode l n (old-target m r h a) = let k = legal-parts m h in legal-only target mode l m r h ∙ rw (k .2, k .3, a)
+refusal-only target mode l n (same-part m r h b) = let k = legal-parts m (h .legal) in legal-only target mode l m r (h .legal) ∙ rw (k .2, k .3, h .allowed, b)
 
-related-only : (target : Target) (l : List ℕ) (m : Record) → Relates l m → Allowed target m → verdictOf target l ≡ Verdict.Accepted m
-related-only target l m r h = let k = legal-parts m (h .legal) in legal-only target l m r (h .legal) ∙ rw (k .2, k .3, h .allowed)
+related-only : (target : Target) (mode : Mode) (l : List ℕ) (m : Record) → Relates l m → Readable target mode m → verdictOf target mode l ≡ Verdict.Accepted m
+related-only target mode l m r h =
+    let a = h .allowed in
+    let k = legal-parts m (a .legal) in
+    legal-only target mode l m r (a .legal) ∙ rw (k .2, k .3, a .allowed, h .passed)
 
-pub only : (target : Target) (l : List ℕ) (a : Verdict) → Decides target l a → verdictOf target l ≡ a
-only target l a (decides-read m r h) = related-only target l m r h
-only target l a (decides-refused {n} r) = refusal-only target l n r
+pub only : (target : Target) (mode : Mode) (l : List ℕ) (a : Verdict) → Decides target mode l a → verdictOf target mode l ≡ a
+only target mode l a (decides-read m r h) = related-only target mode l m r h
+only target mode l a (decides-refused {n} r) = refusal-only target mode l n r
 
 -- no line gets two decides
-pub decides-unique : (target : Target) (l : List ℕ) (a b : Verdict) → Decides target l a → Decides target l b → a ≡ b
-decides-unique target l a b x y = sym (only target l a x) ∙ only target l b y
+pub decides-unique : (target : Target) (mode : Mode) (l : List ℕ) (a b : Verdict) → Decides target mode l a → Decides target mode l b → a ≡ b
+decides-unique target mode l a b x y = sym (only target mode l a x) ∙ only target mode l b y
 
 -- no line is related to two records
 pub one-record : (l : List ℕ) (m n : Record) → Relates l m → Relates l n → m ≡ n
@@ -375,18 +385,18 @@ row-by-all l h t u s v i r =
 -- ==== as the code decides, stage by stage
 
 -- the guard is looked at last
-pub ends-full : (target : Target) (good : Bool) (m : Record) → decidedBy target false true (fitBy good m) ≡ decidedBy target false true (record { spelled = m; opcode = true; row = true; fit = good && true && operandsFit m })
-ends-full target true m = refl
-ends-full target false m = refl
+pub ends-full : (target : Target) (mode : Mode) (good : Bool) (m : Record) → decidedBy target mode false true (fitBy good m) ≡ decidedBy target mode false true (record { spelled = m; opcode = true; row = true; fit = good && true && operandsFit m })
+ends-full target mode true m = refl
+ends-full target mode false m = refl
 
-pub ends-wrong : (target : Target) (good : Bool) (m : Record) → Verdict.Numbered 5 ≡ decidedBy target false true (record { spelled = m; opcode = true; row = true; fit = good && false && operandsFit m })
-ends-wrong target true m = refl
-ends-wrong target false m = refl
+pub ends-wrong : (target : Target) (mode : Mode) (good : Bool) (m : Record) → Verdict.Numbered 5 ≡ decidedBy target mode false true (record { spelled = m; opcode = true; row = true; fit = good && false && operandsFit m })
+ends-wrong target mode true m = refl
+ends-wrong target mode false m = refl
 
 -- a number, 0 for none
-pub ends-refused : (target : Target) (good : Bool) (m : Record) (n : ℕ) → n ≡ refusalOf target false true (fitBy good m) → (n ≡ 0 → ⊥) → Verdict.Numbered n ≡ decidedBy target false true (fitBy good m)
-ends-refused target good m zero e h = absurd (h refl)
-ends-refused target good m (suc n) e h = rw (← e)
+pub ends-refused : (target : Target) (mode : Mode) (good : Bool) (m : Record) (n : ℕ) → n ≡ refusalOf target mode false true (fitBy good m) → (n ≡ 0 → ⊥) → Verdict.Numbered n ≡ decidedBy target mode false true (fitBy good m)
+ends-refused target mode good m zero e h = absurd (h refl)
+ends-refused target mode good m (suc n) e h = rw (← e)
 
-pub ends-read : (target : Target) (good : Bool) (m : Record) (n : ℕ) → n ≡ refusalOf target false true (fitBy good m) → n ≡ 0 → Verdict.Accepted m ≡ decidedBy target false true (fitBy good m)
-ends-read target good m n e z = rw (← e, z)
+pub ends-read : (target : Target) (mode : Mode) (good : Bool) (m : Record) (n : ℕ) → n ≡ refusalOf target mode false true (fitBy good m) → n ≡ 0 → Verdict.Accepted m ≡ decidedBy target mode false true (fitBy good m)
+ends-read target mode good m n e z = rw (← e, z)

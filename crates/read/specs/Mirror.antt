@@ -15,7 +15,9 @@ use Rattle.record.specs.declared.Instruction.{Instruction}
 use Rattle.record.specs.declared.Instruction.the-variants.{Selp}
 use Rattle.record.specs.declared.Record.{Record}
 use Rattle.record.specs.declared.Target.{Target}
+use Rattle.record.specs.declared.Mode.{Mode}
 use Rattle.rules.specs.Targets.{allows}
+use Rattle.rules.specs.Strict.{passes}
 use Rattle.rules.specs.Reading.{lineLimit, Answer, read, refused, refused-at}
 use Rattle.tree.specs.Blank.{noPred, blankChoice}
 use Rattle.tree.specs.declared.Place
@@ -108,28 +110,28 @@ candidateOf x = candidateBy (x .guard) (rowOf (x .head)) (filledOf (instructionI
 abbrev pub fitBy : Bool → Record → Candidate
 fitBy good m = record { spelled = m; opcode = true; row = true; fit = good && operandsFit m }
 
-abbrev pub refusalOf : Target → Bool → Bool → Candidate → ℕ
-refusalOf target tooLong good c =
-    firstReading tooLong (not good) (not (c .opcode)) (not (c .row)) (not (c .fit)) (not (numbersInRange (c .spelled))) (not (pairApart (c .spelled))) (not (allows target (c .spelled)))
+abbrev pub refusalOf : Target → Mode → Bool → Bool → Candidate → ℕ
+refusalOf target mode tooLong good c =
+    firstReading tooLong (not good) (not (c .opcode)) (not (c .row)) (not (c .fit)) (not (numbersInRange (c .spelled))) (not (pairApart (c .spelled))) (not (allows target (c .spelled))) (not (passes mode (c .spelled)))
 
 -- a line that stops before there is a record
 abbrev pub stoppedBy : Bool → Bool → Bool → Bool → Verdict
-stoppedBy tooLong noShape noOpcode noRow = Verdict.Numbered (firstReading tooLong noShape noOpcode noRow true true true true)
+stoppedBy tooLong noShape noOpcode noRow = Verdict.Numbered (firstReading tooLong noShape noOpcode noRow true true true true true)
 
 abbrev pub decided : ℕ → Record → Verdict
 decided zero m = Verdict.Accepted m
 decided (suc n) m = Verdict.Numbered (suc n)
 
-abbrev pub decidedBy : Target → Bool → Bool → Candidate → Verdict
-decidedBy target tooLong good c = decided (refusalOf target tooLong good c) (c .spelled)
+abbrev pub decidedBy : Target → Mode → Bool → Bool → Candidate → Verdict
+decidedBy target mode tooLong good c = decided (refusalOf target mode tooLong good c) (c .spelled)
 
-unfoldable pub verdictOf : Target → List ℕ → Verdict
-verdictOf target l = decidedBy target (ltb lineLimit (length l)) (shapeOf l .good) (candidateOf (shapeOf l .parts))
+unfoldable pub verdictOf : Target → Mode → List ℕ → Verdict
+verdictOf target mode l = decidedBy target mode (ltb lineLimit (length l)) (shapeOf l .good) (candidateOf (shapeOf l .parts))
 
--- ==== the answer: 1 and 12 carry no place
+-- ==== the answer: 1, 12 and 15 carry no place
 
 abbrev pub noPlace : ℕ → Bool
-noPlace n = eqb n 1 || eqb n 12
+noPlace n = eqb n 1 || eqb n 12 || eqb n 15
 
 unfoldable pub refusedBy : ℕ → List ℕ → Answer
 refusedBy n l = cond (noPlace n) (refused n) (refused-at n (placeOf n l))
@@ -138,5 +140,5 @@ abbrev pub answerBy : Verdict → List ℕ → Answer
 answerBy (Verdict.Accepted m) l = read m
 answerBy (Verdict.Numbered n) l = refusedBy n l
 
-unfoldable pub readOf : Target → List ℕ → Answer
-readOf target l = answerBy (verdictOf target l) l
+unfoldable pub readOf : Target → Mode → List ℕ → Answer
+readOf target mode l = answerBy (verdictOf target mode l) l

@@ -1,10 +1,11 @@
-// Reads one line at a target: its shape, its row of the modifier table, its operands, then numbers and pairs, then whether the target allows it.
-// The first refusal that applies decides; then its place is looked for.
+// Reads one line at a target and in a mode: its shape, its row of the modifier table, its operands, then numbers and pairs, then whether the target
+// allows it and the mode passes it. The first refusal that applies decides; then its place is looked for.
 use fills::Filled;
 use heads::Found;
 use record::Condition;
 use record::Guard;
 use record::Instruction;
+use record::Mode;
 use record::Pred;
 use record::Record;
 use record::Target;
@@ -80,15 +81,26 @@ fn record_of(guard: Guard, instruction: Instruction) -> Record
     }
 }
 
-// Refusals 5, 6, 7 and 12, 0 for none.
-fn last_refusal(target: Target, good: bool, r: Record) -> u8
-    ensures { λ n. ⌜ n ≡ refusalOf target false true (fitBy good r) ⌝ }
+// Refusals 5, 6, 7, 12 and 15, 0 for none.
+fn last_refusal(target: Target, mode: Mode, good: bool, r: Record) -> u8
+    ensures { λ n. ⌜ n ≡ refusalOf target mode false true (fitBy good r) ⌝ }
 {
     let fit = good & fits::operands_fit(r);
     let inside = legal::numbers_in_range(r);
     let apart = legal::pair_apart(r);
     let allowed = targets::allows(target, r);
-    refusals::reading(false, false, false, false, !fit, !inside, !apart, !allowed)
+    let passed = strict::passes(mode, r);
+    refusals::reading(
+        false,
+        false,
+        false,
+        false,
+        !fit,
+        !inside,
+        !apart,
+        !allowed,
+        !passed,
+    )
 }
 
 // Before there is a record.
@@ -104,14 +116,15 @@ fn stopped(too_long: bool, no_shape: bool, no_opcode: bool, no_row: bool) -> Ver
         true,
         true,
         true,
+        true,
     ))
 }
 
-fn from_filled(target: Target, g: Guarding, i: Instruction) -> Verdict
-    ensures { λ a. ⌜ a ≡ decidedBy target false true (fitBy (guardGood g) (recordOf (guardIn g) i)) ⌝ }
+fn from_filled(target: Target, mode: Mode, g: Guarding, i: Instruction) -> Verdict
+    ensures { λ a. ⌜ a ≡ decidedBy target mode false true (fitBy (guardGood g) (recordOf (guardIn g) i)) ⌝ }
 {
     let r = record_of(guard_in(g), i);
-    let n = last_refusal(target, places::guard_good(g), r);
+    let n = last_refusal(target, mode, places::guard_good(g), r);
     if n != 0 {
         return Verdict::Numbered(n);
     }
@@ -125,8 +138,8 @@ fn row_fits(i: Instruction) -> bool
     fits::modifiers_fit(record_of(Guard::Always, i))
 }
 
-fn from_row(target: Target, g: Guarding, i: Instruction, operands: Operands) -> Verdict
-    ensures { λ a. ⌜ a ≡ decidedBy target false true (candidateBy g (found.Row i) (filledOf i operands)) ⌝ }
+fn from_row(target: Target, mode: Mode, g: Guarding, i: Instruction, operands: Operands) -> Verdict
+    ensures { λ a. ⌜ a ≡ decidedBy target mode false true (candidateBy g (found.Row i) (filledOf i operands)) ⌝ }
 {
     if !row_fits(i) {
         return stopped(false, false, false, true);
@@ -134,18 +147,18 @@ fn from_row(target: Target, g: Guarding, i: Instruction, operands: Operands) -> 
     let Filled::Full(j) = fills::fill_in(i, operands) else {
         return stopped(false, false, false, false);
     };
-    from_filled(target, g, j)
+    from_filled(target, mode, g, j)
 }
 
-fn from_parts(target: Target, x: Parts) -> Verdict
-    ensures { λ a. ⌜ a ≡ decidedBy target false true (candidateOf x) ⌝ }
+fn from_parts(target: Target, mode: Mode, x: Parts) -> Verdict
+    ensures { λ a. ⌜ a ≡ decidedBy target mode false true (candidateOf x) ⌝ }
 {
     let g = x.guard;
     let head = x.head;
     let operands = x.operands;
     match heads::row(head) {
         Found::Row(i) => {
-            return from_row(target, g, i, operands);
+            return from_row(target, mode, g, i, operands);
         }
         Found::NoOpcode => {
             return stopped(false, false, true, true);
@@ -156,8 +169,8 @@ fn from_parts(target: Target, x: Parts) -> Verdict
     }
 }
 
-fn judge(target: Target, line: &[u8]) -> Verdict
-    ensures { λ a. ⌜ a ≡ verdictOf target (now (line .entry)) ⌝ }
+fn judge(target: Target, mode: Mode, line: &[u8]) -> Verdict
+    ensures { λ a. ⌜ a ≡ verdictOf target mode (now (line .entry)) ⌝ }
 {
     if LINE_LIMIT < line.len() {
         // Before a look at its bytes, so that no line takes longer than one of the limit.
@@ -168,29 +181,31 @@ fn judge(target: Target, line: &[u8]) -> Verdict
         return stopped(false, true, true, true);
     }
     let parts = scanned.parts;
-    from_parts(target, parts)
+    from_parts(target, mode, parts)
 }
 
 // ---- the entry point
 
-// A line that is too long has no place, nor has one that its target is too old for.
+// A line that is too long has no place, nor has one that its target is too old for, nor one that compares a part with itself.
 const TOO_LONG: u8 = 1;
 
 const TOO_OLD: u8 = 12;
 
+const AGAINST_ITSELF: u8 = 15;
+
 fn refused(n: u8, line: &[u8]) -> Reading
     ensures { λ a. ⌜ answerOf a ≡ refusedBy n (now (line .entry)) ⌝ }
 {
-    if (n == TOO_LONG) | (n == TOO_OLD) {
+    if (n == TOO_LONG) | (n == TOO_OLD) | (n == AGAINST_ITSELF) {
         return Reading::Refused(n);
     }
     Reading::RefusedAt(n, places::place(n, line))
 }
 
-pub fn read(target: Target, line: &[u8]) -> Reading
-    ensures { λ a. ⌜ Answers target (now (line .entry)) (answerOf a) ⌝ }
+pub fn read(target: Target, mode: Mode, line: &[u8]) -> Reading
+    ensures { λ a. ⌜ Answers target mode (now (line .entry)) (answerOf a) ⌝ }
 {
-    match judge(target, line) {
+    match judge(target, mode, line) {
         Verdict::Accepted(r) => Reading::Record(r),
         Verdict::Numbered(n) => refused(n, line),
     }

@@ -3,9 +3,9 @@
 use Prim.Native.Nat.{ℕ}
 use mathlib.Core.Bool.{Bool, cond}
 
--- Reading: 1 to 7, T-07: 12 after 7
-abbrev pub firstReading : Bool → Bool → Bool → Bool → Bool → Bool → Bool → Bool → ℕ
-firstReading tooLong noShape noOpcode noRow noFit outOfFile samePair tooOld =
+-- Reading: 1 to 7, T-07: 12 after 7, T-09: 15 after 12
+abbrev pub firstReading : Bool → Bool → Bool → Bool → Bool → Bool → Bool → Bool → Bool → ℕ
+firstReading tooLong noShape noOpcode noRow noFit outOfFile samePair tooOld againstItself =
     cond tooLong 1
     (cond noShape 2
     (cond noOpcode 3
@@ -14,7 +14,8 @@ firstReading tooLong noShape noOpcode noRow noFit outOfFile samePair tooOld =
     (cond outOfFile 6
     (cond samePair 7
     (cond tooOld 12
-    0)))))))
+    (cond againstItself 15
+    0))))))))
 
 -- Executing: 8, 10, 11, T-07: 12 straight after 8
 abbrev pub firstExecuting : Bool → Bool → Bool → Bool → ℕ

@@ -23,6 +23,9 @@ const SAME_PAIR: u8 = 7;
 // T-07: reading and executing.
 const TOO_OLD: u8 = 12;
 
+// T-09: strict reading.
+const AGAINST_ITSELF: u8 = 15;
+
 // The refusals of executing.
 const NOT_LEGAL: u8 = 8;
 
@@ -40,8 +43,9 @@ pub fn reading(
     out_of_file: bool,
     same_pair: bool,
     too_old: bool,
+    against_itself: bool,
 ) -> u8
-    ensures { λ r. ⌜ r ≡ firstReading «too_long» «no_shape» «no_opcode» «no_row» «no_fit» «out_of_file» «same_pair» «too_old» ⌝ }
+    ensures { λ r. ⌜ r ≡ firstReading «too_long» «no_shape» «no_opcode» «no_row» «no_fit» «out_of_file» «same_pair» «too_old» «against_itself» ⌝ }
 {
     if too_long {
         return TOO_LONG;
@@ -64,7 +68,10 @@ pub fn reading(
     if same_pair {
         return SAME_PAIR;
     }
-    if too_old { TOO_OLD } else { NONE }
+    if too_old {
+        return TOO_OLD;
+    }
+    if against_itself { AGAINST_ITSELF } else { NONE }
 }
 
 // The first refusal of executing that applies, 0 where none does.

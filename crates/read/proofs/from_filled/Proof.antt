@@ -21,14 +21,14 @@ returns : tie.Need-returns
 returns c =
     let g = c .before .before .before .before .before .args .g in
     let m = recordOf (guardIn g) (c .before .before .before .before .before .args .i) in
-    ends-refused _ (guardGood g) m _ (simp (c .before .last-refusal .ensures, c .before .before .guard-good .ensures, c .before .before .before .record-of .ensures, c .before .before .before .before .guard-in .ensures)) (c .if1 .taken)
+    ends-refused _ _ (guardGood g) m _ (simp (c .before .last-refusal .ensures, c .before .before .guard-good .ensures, c .before .before .before .record-of .ensures, c .before .before .before .before .guard-in .ensures)) (c .if1 .taken)
 
 returns-2 : tie.Need-returns-2
 returns-2 c =
     let g = c .before .before .before .before .before .args .g in
     let m = recordOf (guardIn g) (c .before .before .before .before .before .args .i) in
     simp (c .before .before .before .record-of .ensures, c .before .before .before .before .guard-in .ensures)
-    (ends-read _ (guardGood g) m _ (simp (c .before .last-refusal .ensures, c .before .before .guard-good .ensures, c .before .before .before .record-of .ensures, c .before .before .before .before .guard-in .ensures)) (c .if1 .left))
+    (ends-read _ _ (guardGood g) m _ (simp (c .before .last-refusal .ensures, c .before .before .guard-good .ensures, c .before .before .before .record-of .ensures, c .before .before .before .before .guard-in .ensures)) (c .if1 .left))
 
 pub from-filled-spec : {M : Type 1} → statement M
 from-filled-spec =

@@ -40,7 +40,7 @@ returns-2 c =
       ← c .before .before .before .fill-in .ensures,
       c .before .enum-told .given .1,
     )
-    (ends-wrong (c .before .before .before .before .before .before .args .target) (guardGood g) (recordOf (guardIn g) noInstruction))
+    (ends-wrong (c .before .before .before .before .before .before .args .target) (c .before .before .before .before .before .before .args .mode) (guardGood g) (recordOf (guardIn g) noInstruction))
 
 from-filled-requires : tie.Need-from-filled-requires
 from-filled-requires c κs = search needs
@@ -54,7 +54,7 @@ returns-3 c =
       ← c .before .before .before .before .fill-in .ensures,
       c .before .before .j .given .1,
     )
-    (ends-full (c .before .before .before .before .before .before .before .args .target) (guardGood g) (recordOf (guardIn g) (c .before .before .j .given .0 .0)))
+    (ends-full (c .before .before .before .before .before .before .before .args .target) (c .before .before .before .before .before .before .before .args .mode) (guardGood g) (recordOf (guardIn g) (c .before .before .j .given .0 .0)))
 
 pub from-row-spec : {M : Type 1} → statement M
 from-row-spec =

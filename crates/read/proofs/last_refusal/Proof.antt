@@ -18,14 +18,18 @@ returns : tie.Need-returns
 returns c =
     simp (
       c .reading .ensures,
-      c .before .allows .ensures,
-      c .before .before .pair-apart .ensures,
-      c .before .before .before .numbers-in-range .ensures,
-      c .before .before .before .before .operands-fit .ensures,
+      c .before .passes .ensures,
+      c .before .before .allows .ensures,
+      c .before .before .before .pair-apart .ensures,
+      c .before .before .before .before .numbers-in-range .ensures,
+      c .before .before .before .before .before .operands-fit .ensures,
     )
 
 allows-requires : tie.Need-allows-requires
 allows-requires c κs = search needs
+
+passes-requires : tie.Need-passes-requires
+passes-requires c κs = search needs
 
 pub last-refusal-spec : {M : Type 1} → statement M
 last-refusal-spec =
@@ -35,5 +39,6 @@ last-refusal-spec =
     numbers-in-range-requires
     pair-apart-requires
     allows-requires
+    passes-requires
     reading-requires
     returns)

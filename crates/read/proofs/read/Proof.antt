@@ -25,11 +25,11 @@ refused-requires : tie.Need-refused-requires
 refused-requires c κs = search needs
 
 returns : tie.Need-returns
-returns c = answers-by _ _ _ (sym (c .before .r .given .1) ∙ c .before .before .before .judge .ensures)
+returns c = answers-by _ _ _ _ (sym (c .before .r .given .1) ∙ c .before .before .before .judge .ensures)
 
 returns-2 : tie.Need-returns-2
 returns-2 c =
-    subst (Answers _ _) (sym (c .refused .ensures)) (answers-by _ _ _ (sym (c .before .before .n .given .1) ∙ c .before .before .before .before .judge .ensures))
+    subst (Answers _ _ _) (sym (c .refused .ensures)) (answers-by _ _ _ _ (sym (c .before .before .n .given .1) ∙ c .before .before .before .before .judge .ensures))
 
 pub read-spec : {M : Type 1} → statement M
 read-spec = tie.close (tie.spec judge-requires enum-known-r enum-known-n refused-requires returns returns-2)
@@ -38,4 +38,4 @@ read-spec = tie.close (tie.spec judge-requires enum-known-r enum-known-n refused
 pub read-one-outcome :
     (κs : Lfts 1) (a : Dens κs kinds.ps) (x y : Reading) (s t : AtExit (endedOf 1 kinds.ps kinds.r) κs)
     → reads.Post κs a x s → reads.Post κs a y t → x ≡ y
-read-one-outcome κs a x y s t p q = answers-one x y (answers-unique _ _ _ _ p q)
+read-one-outcome κs a x y s t p q = answers-one x y (answers-unique _ _ _ _ _ p q)

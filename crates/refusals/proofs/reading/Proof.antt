@@ -32,13 +32,16 @@ returns-7 : tie.Need-returns-7
 returns-7 c = search needs
 
 returns-8 : tie.Need-returns-8
-returns-8 c = search needs
+returns-8 c = simp (c .if8 .taken, c .before .if7 .left, c .before .before .if6 .left, c .before .before .before .if5 .left, c .before .before .before .before .if4 .left, c .before .before .before .before .before .if3 .left, c .before .before .before .before .before .before .if2 .left, c .before .before .before .before .before .before .before .if1 .left)
 
 returns-9 : tie.Need-returns-9
-returns-9 c = search needs
+returns-9 c = simp (c .if9 .taken, c .before .if8 .left, c .before .before .if7 .left, c .before .before .before .if6 .left, c .before .before .before .before .if5 .left, c .before .before .before .before .before .if4 .left, c .before .before .before .before .before .before .if3 .left, c .before .before .before .before .before .before .before .if2 .left, c .before .before .before .before .before .before .before .before .if1 .left)
+
+returns-10 : tie.Need-returns-10
+returns-10 c = simp (c .if9 .left, c .before .if8 .left, c .before .before .if7 .left, c .before .before .before .if6 .left, c .before .before .before .before .if5 .left, c .before .before .before .before .before .if4 .left, c .before .before .before .before .before .before .if3 .left, c .before .before .before .before .before .before .before .if2 .left, c .before .before .before .before .before .before .before .before .if1 .left)
 
 pub reading-spec : {M : Type 1} → statement M
-reading-spec = tie.close (tie.spec returns returns-2 returns-3 returns-4 returns-5 returns-6 returns-7 returns-8 returns-9)
+reading-spec = tie.close (tie.spec returns returns-2 returns-3 returns-4 returns-5 returns-6 returns-7 returns-8 returns-9 returns-10)
 
 -- no two outcomes satisfy the contract as it stands in src/lib.rt
 pub reading-one-outcome :
