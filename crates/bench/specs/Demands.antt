@@ -1,6 +1,7 @@
--- The user's three demands, in their words and order, as laws of the whole bench: document 01 with the requests that have landed (T-01, T-02, T-04, T-05, T-06, T-07). The laws of T-14,
+-- The user's three demands, in their words and order, as laws of the whole bench: document 01 with the requests that have landed (T-01, T-02, T-04, T-05, T-06, T-07, T-09). The laws of T-14,
 -- which changed no answer, stand beside this file, in TakenApart.antt; what stands at each place of T-05, in WhereWrong.antt; T-07's
--- targets beside one another, in OldCards.antt. A target goes with each reading and execution (T-07): the laws hold for each, and for the records that it allows.
+-- targets beside one another, in OldCards.antt; T-09's two modes of reading, in StrictReading.antt. A target goes with each reading and execution (T-07): the laws hold for
+-- each, and for the records that it allows. A mode goes with each reading (T-09): the laws of reading hold for both, and in strict reading for the records that are not against themselves.
 -- `read`, `write` and `execute` of src/lib.rt promise `Answers`, `writing` and `run` for every input; these laws say what that means, and
 -- proofs/Contracts.antt says the records at the end of this file of the functions' own contracts, and that these ask nothing. What a definition says, its own file says
 -- after the documents (docs/RULES.md leads the way). Assumes nothing.
@@ -27,8 +28,10 @@ use Rattle.record.specs.declared.Destination.the-variants.{One, Pair, First, Se
 use Rattle.record.specs.declared.Instruction.the-variants.{VsetLanes, ArithmeticLanes, Setp}
 use Rattle.record.specs.declared.Record.{Record}
 use Rattle.record.specs.declared.Target.{Target}
+use Rattle.record.specs.declared.Mode.{Mode}
 use Rattle.rules.specs.Grammar.{LineTree, Shaped}
 use Rattle.rules.specs.Targets.{allows, Allowed}
+use Rattle.rules.specs.Strict.{passes, Readable}
 use Rattle.rules.specs.StandardLine.{standard}
 use Rattle.rules.specs.Reading.{Relates, lineLimit, Applies, readingOrder, FirstOf, Placed, placeless, Answer, read, refused, refused-at, Answers}
 use Rattle.signs.specs.Lists.{Listed}
@@ -52,15 +55,15 @@ use Rattle.read.specs.Promises.{Refusal}
 -- ==== 1. Every line, every decoded record and every set of register files gets an answer.
 
 -- `writing` and `run` are functions of all records, buffers and files; for a line there is an answer, and one
-pub every-line-answered : (target : Target) (l : List ℕ) → (a : Answer) × Answers target l a
-every-line-answered target l = (readOf target l, answering.answers target l)
+pub every-line-answered : (target : Target) (mode : Mode) (l : List ℕ) → (a : Answer) × Answers target mode l a
+every-line-answered target mode l = (readOf target mode l, answering.answers target mode l)
 
-pub one-answer : (target : Target) (l : List ℕ) (a b : Answer) → Answers target l a → Answers target l b → a ≡ b
-one-answer target l a b x y = answering.answers-unique target l a b x y
+pub one-answer : (target : Target) (mode : Mode) (l : List ℕ) (a b : Answer) → Answers target mode l a → Answers target mode l b → a ≡ b
+one-answer target mode l a b x y = answering.answers-unique target mode l a b x y
 
 -- Each entry point tests its own input: none has a `requires`, so what a caller would have had to test is a refusal.
 
--- a line: 1 to 7 and 12 are under demand 3. A record and a buffer: 8, 9
+-- a line: 1 to 7, 12 and 15 are under demand 3. A record and a buffer: 8, 9
 pub write-8 : (x : Record) (b : List ℕ) → isLegal x ≡ false → writing x b ≡ paper.outcome (paper.refused 8) b
 write-8 x b e = outcomes.write-8 x b e
 
@@ -83,13 +86,13 @@ execute-11 target x f e s b = outcomes.execute-11 target x f e s b
 -- A refusal carries document 01's number and leaves registers, predicates and the output buffer exactly as they were lent.
 
 -- (a line is lent to be read only: by its type it stays as it is)
-pub read-refused : (target : Target) (l : List ℕ) (n : ℕ) → Answers target l (refused n) → Listed n readingOrder × Listed n placeless
-read-refused target l n a = (promises.refused-listed target l n a, promises.refused-first target l n a .1)
+pub read-refused : (target : Target) (mode : Mode) (l : List ℕ) (n : ℕ) → Answers target mode l (refused n) → Listed n readingOrder × Listed n placeless
+read-refused target mode l n a = (promises.refused-listed target mode l n a, promises.refused-first target mode l n a .1)
 
--- T-05: refusals 2 to 7, all but 1 (T-07: and 12), carry a byte place, which is one of the line or its length
-pub read-refused-at : (target : Target) (l : List ℕ) (n q : ℕ) → Answers target l (refused-at n q) → Listed n readingOrder × (Listed n placeless → ⊥) × (q ≤ length l)
-read-refused-at target l n q a =
-    (promises.refused-at-listed target l n q a, λ i. answering.placeless-unplaced l n q i (promises.refused-at-first target l n q a .1), promises.refused-at-within target l n q a .0)
+-- T-05: refusals 2 to 7, all but 1 (T-07: and 12, T-09: and 15), carry a byte place, which is one of the line or its length
+pub read-refused-at : (target : Target) (mode : Mode) (l : List ℕ) (n q : ℕ) → Answers target mode l (refused-at n q) → Listed n readingOrder × (Listed n placeless → ⊥) × (q ≤ length l)
+read-refused-at target mode l n q a =
+    (promises.refused-at-listed target mode l n q a, λ i. answering.placeless-unplaced l n q i (promises.refused-at-first target mode l n q a .1), promises.refused-at-within target mode l n q a .0)
 
 pub write-refused : (x : Record) (b : List ℕ) (n : ℕ) → writing x b .answer ≡ paper.refused n → Listed n (8 ∷ 9 ∷ []) × (writing x b .buffer ≡ b)
 write-refused x b n e = outcomes.write-refused x b n e
@@ -198,18 +201,18 @@ writes-standard x b e h = outcomes.writes-standard x b e h
 pub room-of-a-line-is-enough : (x : Record) → Legal x → length (standard x) ≤ lineLimit
 room-of-a-line-is-enough x h = standard-fits x h
 
--- and reading that line gives the record again (T-07: at each target that allows it).
-pub reads-back : (target : Target) (x : Record) → Allowed target x → Answers target (standard x) (read x)
-reads-back target x h = promises.standard-reads target x h
+-- and reading that line gives the record again (T-07: at each target that allows it; T-09: in strict reading, where it is not against itself).
+pub reads-back : (target : Target) (mode : Mode) (x : Record) → Readable target mode x → Answers target mode (standard x) (read x)
+reads-back target mode x h = promises.standard-reads target mode x h
 
 -- ==== 3. A line is accepted exactly when the grammar of document 01, set down apart from the reader, relates it to a legal record (T-07:
--- that the target allows).
+-- that the target allows; T-09: and that in strict reading is not against itself).
 
-pub accepted-related : (target : Target) (l : List ℕ) (x : Record) → Answers target l (read x) → Relates l x × Allowed target x
-accepted-related target l x a = promises.accepted-related target l x a
+pub accepted-related : (target : Target) (mode : Mode) (l : List ℕ) (x : Record) → Answers target mode l (read x) → Relates l x × Readable target mode x
+accepted-related target mode l x a = promises.accepted-related target mode l x a
 
-pub related-accepted : (target : Target) (l : List ℕ) (x : Record) → Relates l x → Allowed target x → Answers target l (read x)
-related-accepted target l x q h = promises.related-accepted target l x q h
+pub related-accepted : (target : Target) (mode : Mode) (l : List ℕ) (x : Record) → Relates l x → Readable target mode x → Answers target mode l (read x)
+related-accepted target mode l x q h = promises.related-accepted target mode l x q h
 
 -- (and no line with the shape has a line feed)
 pub no-line-feed : (l : List ℕ) (t : LineTree) → Shaped l t → Listed lineFeed l → ⊥
@@ -224,8 +227,8 @@ pub has-line : (x : Record) → Legal x → (l : List ℕ) × Relates l x
 has-line x h = promises.has-line x h
 
 -- two accepted lines have equal records exactly when their standard lines are equal.
-pub equal-standard-lines : (target other : Target) (l k : List ℕ) (x y : Record) → Answers target l (read x) → Answers other k (read y) → standard x ≡ standard y → x ≡ y
-equal-standard-lines target other l k x y a b e = promises.same-line target other l k x y a b e
+pub equal-standard-lines : (target other : Target) (mode way : Mode) (l k : List ℕ) (x y : Record) → Answers target mode l (read x) → Answers other way k (read y) → standard x ≡ standard y → x ≡ y
+equal-standard-lines target other mode way l k x y a b e = promises.same-line target other mode way l k x y a b e
 
 pub equal-records : (x y : Record) → x ≡ y → standard x ≡ standard y
 equal-records x y e = ap standard e
@@ -233,21 +236,21 @@ equal-records x y e = ap standard e
 -- A line that is not accepted gets the first refusal, in document 01's order, that applies to it.
 
 -- n applies, and none before it in the order does. T-05: demand 3 covers the place too
-pub refused-first : (target : Target) (l : List ℕ) (n : ℕ) → Answers target l (refused n) → FirstOf target l n readingOrder × Listed n placeless
-refused-first target l n a = promises.refused-first target l n a
+pub refused-first : (target : Target) (mode : Mode) (l : List ℕ) (n : ℕ) → Answers target mode l (refused n) → FirstOf target mode l n readingOrder × Listed n placeless
+refused-first target mode l n a = promises.refused-first target mode l n a
 
-pub refused-at-first : (target : Target) (l : List ℕ) (n q : ℕ) → Answers target l (refused-at n q) → FirstOf target l n readingOrder × Placed l n q
-refused-at-first target l n q a = promises.refused-at-first target l n q a
+pub refused-at-first : (target : Target) (mode : Mode) (l : List ℕ) (n q : ℕ) → Answers target mode l (refused-at n q) → FirstOf target mode l n readingOrder × Placed l n q
+refused-at-first target mode l n q a = promises.refused-at-first target mode l n q a
 
-pub first-refused : (target : Target) (l : List ℕ) (n : ℕ) → FirstOf target l n readingOrder → Listed n placeless → Answers target l (refused n)
-first-refused target l n f i = promises.first-refused target l n f i
+pub first-refused : (target : Target) (mode : Mode) (l : List ℕ) (n : ℕ) → FirstOf target mode l n readingOrder → Listed n placeless → Answers target mode l (refused n)
+first-refused target mode l n f i = promises.first-refused target mode l n f i
 
-pub first-refused-at : (target : Target) (l : List ℕ) (n q : ℕ) → FirstOf target l n readingOrder → Placed l n q → Answers target l (refused-at n q)
-first-refused-at target l n q f i = promises.first-refused-at target l n q f i
+pub first-refused-at : (target : Target) (mode : Mode) (l : List ℕ) (n q : ℕ) → FirstOf target mode l n readingOrder → Placed l n q → Answers target mode l (refused-at n q)
+first-refused-at target mode l n q f i = promises.first-refused-at target mode l n q f i
 
--- each refusal but 1 and 12 has a place, and one; these have none
-pub some-place : (target : Target) (l : List ℕ) (n : ℕ) → FirstOf target l n readingOrder → (Listed n placeless → ⊥) → (q : ℕ) × Placed l n q
-some-place target l n f k = answering.placed-some target l n f k
+-- each refusal but 1, 12 and 15 has a place, and one; these have none
+pub some-place : (target : Target) (mode : Mode) (l : List ℕ) (n : ℕ) → FirstOf target mode l n readingOrder → (Listed n placeless → ⊥) → (q : ℕ) × Placed l n q
+some-place target mode l n f k = answering.placed-some target mode l n f k
 
 pub one-place : (l : List ℕ) → length l ≤ lineLimit → (n q k : ℕ) → Placed l n q → Placed l n k → q ≡ k
 one-place l h n q k x y = answering.placed-one l h n q k x y
@@ -256,28 +259,28 @@ pub no-place : (l : List ℕ) (n q : ℕ) → Listed n placeless → Placed l n 
 no-place l n q i x = answering.placeless-unplaced l n q i x
 
 -- an accepted line has no refusal that applies, and a line with none that applies is accepted
-pub accepted-none-applies : (target : Target) (l : List ℕ) (x : Record) → Answers target l (read x) → (n : ℕ) → Applies target l n → ⊥
-accepted-none-applies target l x a n e = promises.accepted-none-applies target l x a n e
+pub accepted-none-applies : (target : Target) (mode : Mode) (l : List ℕ) (x : Record) → Answers target mode l (read x) → (n : ℕ) → Applies target mode l n → ⊥
+accepted-none-applies target mode l x a n e = promises.accepted-none-applies target mode l x a n e
 
-pub none-applies-accepted : (target : Target) (l : List ℕ) → ((n : ℕ) → Applies target l n → ⊥) → (x : Record) × Answers target l (read x)
-none-applies-accepted target l h = answering.none-accepted target l h
+pub none-applies-accepted : (target : Target) (mode : Mode) (l : List ℕ) → ((n : ℕ) → Applies target mode l n → ⊥) → (x : Record) × Answers target mode l (read x)
+none-applies-accepted target mode l h = answering.none-accepted target mode l h
 
-pub not-accepted-refused : (target : Target) (l : List ℕ) → ((x : Record) → Relates l x → Allowed target x → ⊥) → (a : Answer) × Answers target l a × (n : ℕ) × Refusal a n
-not-accepted-refused target l h = promises.unrelated-refused target l h
+pub not-accepted-refused : (target : Target) (mode : Mode) (l : List ℕ) → ((x : Record) → Relates l x → Readable target mode x → ⊥) → (a : Answer) × Answers target mode l a × (n : ℕ) × Refusal a n
+not-accepted-refused target mode l h = promises.unrelated-refused target mode l h
 
-pub refused-not-accepted : (target : Target) (l : List ℕ) (a : Answer) (n : ℕ) (x : Record) → Answers target l a → Refusal a n → Relates l x → Allowed target x → ⊥
-refused-not-accepted target l a n x h i q k = promises.refused-unrelated target l a n x h i q k
+pub refused-not-accepted : (target : Target) (mode : Mode) (l : List ℕ) (a : Answer) (n : ℕ) (x : Record) → Answers target mode l a → Refusal a n → Relates l x → Readable target mode x → ⊥
+refused-not-accepted target mode l a n x h i q k = promises.refused-unrelated target mode l a n x h i q k
 
 -- ==== the demands of one call: what is asked for, the answer a, and what the lent memory holds at exit
 
 -- a line is read
-pub record ReadAsDemanded (target : Target) (l : List ℕ) (a : Answer) : Type 0 where
-  pub accepted : (x : Record) → a ≡ read x → Relates l x × Allowed target x
-  pub related : (x : Record) → Relates l x → Allowed target x → a ≡ read x
-  pub refused-first : (n : ℕ) → a ≡ refused n → FirstOf target l n readingOrder × Listed n placeless
-  pub first-refused : (n : ℕ) → FirstOf target l n readingOrder → Listed n placeless → a ≡ refused n
-  pub refused-at-first : (n q : ℕ) → a ≡ refused-at n q → FirstOf target l n readingOrder × Placed l n q
-  pub first-refused-at : (n q : ℕ) → FirstOf target l n readingOrder → Placed l n q → a ≡ refused-at n q
+pub record ReadAsDemanded (target : Target) (mode : Mode) (l : List ℕ) (a : Answer) : Type 0 where
+  pub accepted : (x : Record) → a ≡ read x → Relates l x × Readable target mode x
+  pub related : (x : Record) → Relates l x → Readable target mode x → a ≡ read x
+  pub refused-first : (n : ℕ) → a ≡ refused n → FirstOf target mode l n readingOrder × Listed n placeless
+  pub first-refused : (n : ℕ) → FirstOf target mode l n readingOrder → Listed n placeless → a ≡ refused n
+  pub refused-at-first : (n q : ℕ) → a ≡ refused-at n q → FirstOf target mode l n readingOrder × Placed l n q
+  pub first-refused-at : (n q : ℕ) → FirstOf target mode l n readingOrder → Placed l n q → a ≡ refused-at n q
 
 -- a record is written into a buffer b, which holds c at exit
 pub record WrittenAsDemanded (x : Record) (b : List ℕ) (a : paper.Answer) (c : List ℕ) : Type 0 where
@@ -300,15 +303,15 @@ pub record ExecutedAsDemanded (target : Target) (x : Record) (f : Files) (a : ex
   pub lengths-stay : SameLengths f g
 
 -- the equations that the contracts promise give them
-pub read-as-demanded : (target : Target) (l : List ℕ) (a : Answer) → Answers target l a → ReadAsDemanded target l a
-read-as-demanded target l a h =
+pub read-as-demanded : (target : Target) (mode : Mode) (l : List ℕ) (a : Answer) → Answers target mode l a → ReadAsDemanded target mode l a
+read-as-demanded target mode l a h =
     record {
-      accepted = λ x e. promises.accepted-related target l x (rw (← e) h);
-      related = λ x r e. answering.answers-unique target l a (read x) h (promises.related-accepted target l x r e);
-      refused-first = λ n e. promises.refused-first target l n (rw (← e) h);
-      first-refused = λ n f i. answering.answers-unique target l a (refused n) h (promises.first-refused target l n f i);
-      refused-at-first = λ n q e. promises.refused-at-first target l n q (rw (← e) h);
-      first-refused-at = λ n q f i. answering.answers-unique target l a (refused-at n q) h (promises.first-refused-at target l n q f i);
+      accepted = λ x e. promises.accepted-related target mode l x (rw (← e) h);
+      related = λ x r e. answering.answers-unique target mode l a (read x) h (promises.related-accepted target mode l x r e);
+      refused-first = λ n e. promises.refused-first target mode l n (rw (← e) h);
+      first-refused = λ n f i. answering.answers-unique target mode l a (refused n) h (promises.first-refused target mode l n f i);
+      refused-at-first = λ n q e. promises.refused-at-first target mode l n q (rw (← e) h);
+      first-refused-at = λ n q f i. answering.answers-unique target mode l a (refused-at n q) h (promises.first-refused-at target mode l n q f i);
     }
 
 pub written-as-demanded : (x : Record) (b : List ℕ) (a : paper.Answer) (c : List ℕ) → paper.outcome a c ≡ writing x b → WrittenAsDemanded x b a c
@@ -339,10 +342,10 @@ executed-as-demanded target x f a g h =
       lengths-stay = rw left (runs.lengths-stay target x f);
     }
 
--- reading that line gives the record again, at a target that allows it: the first n bytes, where the writer answered n
-pub written-then-read : (target : Target) (x : Record) (b c : List ℕ) (a : paper.Answer) (n : ℕ) (y : Answer) → WrittenAsDemanded x b a c → a ≡ written n → allows target x ≡ true
-    → ReadAsDemanded target (take n c) y → y ≡ read x
-written-then-read target x b c a n y w h allowed r = go (isLegal x) refl (ltb (length b) (length (standard x))) refl
+-- reading that line gives the record again, at a target that allows it and in a mode that passes it: the first n bytes, where the writer answered n
+pub written-then-read : (target : Target) (mode : Mode) (x : Record) (b c : List ℕ) (a : paper.Answer) (n : ℕ) (y : Answer) → WrittenAsDemanded x b a c → a ≡ written n → allows target x ≡ true
+    → passes mode x ≡ true → ReadAsDemanded target mode (take n c) y → y ≡ read x
+written-then-read target mode x b c a n y w h allowed passed r = go (isLegal x) refl (ltb (length b) (length (standard x))) refl
   where
     other : (k : ℕ) → a ≡ paper.refused k → y ≡ read x
     other k e =
@@ -358,5 +361,5 @@ written-then-read target x b c a n y w h allowed r = go (isLegal x) refl (ltb (l
         let z : written n ≡ written (length (standard x)) = sym h ∙ k .0 in
         let m : n ≡ length (standard x) = cc in
         let line : take n c ≡ standard x = rw (m, k .1) (take-at (standard x) _ _ refl) in
-        let there : Allowed target x = record { legal = e; allowed = allowed } in
-        r .related x (subst (λ (l : List ℕ). Relates l x) (sym line) (promises.accepted-related target (standard x) x (promises.standard-reads target x there) .0)) there
+        let there : Readable target mode x = record { allowed = record { legal = e; allowed = allowed }; passed = passed } in
+        r .related x (subst (λ (l : List ℕ). Relates l x) (sym line) (promises.accepted-related target mode (standard x) x (promises.standard-reads target mode x there) .0)) there

@@ -1,5 +1,5 @@
 -- Change request T-07, "Old yard cards", for someone with an old card: what a target changes and what it leaves as it is. Laws of `Answers` and `run`, which `read` and
--- `execute` of src/lib.rt promise for every target; which records a target allows, and when it flushes, says crates/rules/specs/Targets.antt. Assumes nothing.
+-- `execute` of src/lib.rt promise for every target and, `read`, in each mode; which records a target allows, and when it flushes, says crates/rules/specs/Targets.antt. Assumes nothing.
 use Prim.Native.Nat.{ℕ, _≤_, _<_}
 use mathlib.Core.Path.{_≡_, refl, sym, _∙_}
 use mathlib.Core.Bool.{Bool, true, false, not, cond}
@@ -11,6 +11,7 @@ use Rattle.signs.specs.Lists.Listed.{here, later}
 use Rattle.record.specs.Registers.{Files, r, operandPlace, at}
 use Rattle.record.specs.Refusals.{isLegal, Legal}
 use Rattle.record.specs.declared.Target.{Target}
+use Rattle.record.specs.declared.Mode.{Mode}
 use Rattle.record.specs.declared.Target.the-variants.{Sm10, Sm13, Sm20, Sm30}
 use Rattle.record.specs.declared.DataType.{DataType}
 use Rattle.record.specs.declared.DataType.the-variants.{F32, F64}
@@ -32,6 +33,7 @@ use Rattle.record.specs.declared.Instruction.{Instruction}
 use Rattle.record.specs.declared.Instruction.the-variants.{Arithmetic, Vset, VsetLanes, ArithmeticLanes, Set, Setp, Selp, Slct}
 use Rattle.record.specs.declared.Record.{Record}
 use Rattle.rules.specs.Targets.{generation, typeNeeds, needs, allows, Allowed, flushesAlways, slctTypeAt}
+use Rattle.rules.specs.Strict.{passes}
 use Rattle.rules.specs.Reading.{Relates, Applies, too-old, Answer, read, refused, Answers, accepts}
 use Rattle.rules.specs.Execution.{comparisonOf, setOf, selpOf, notBelowZero, slctOf}
 use Rattle.rules.specs.Executing as executing
@@ -90,30 +92,32 @@ nothing-needed target x e = targets.nothing-needed target x e
 pub newest-allowed : (x : Record) → Legal x → Allowed Sm30 x
 newest-allowed x h = record { legal = h; allowed = targets.newest-allows x }
 
--- ==== reading: 12, target too old, without a place, after 7
+-- ==== reading: 12, target too old, without a place, after 7; in each mode
 
 -- a line gets 12 exactly where it spells a legal record that the target does not allow, so that none of 1 to 7 applies
-pub too-old-read : (target : Target) (l : List ℕ) (x : Record) → Relates l x → Legal x → allows target x ≡ false → Answers target l (refused 12)
-too-old-read target l x q h a = promises.legal-too-old target l x q h a
+pub too-old-read : (target : Target) (mode : Mode) (l : List ℕ) (x : Record) → Relates l x → Legal x → allows target x ≡ false → Answers target mode l (refused 12)
+too-old-read target mode l x q h a = promises.legal-too-old target mode l x q h a
 
-pub read-too-old : (target : Target) (l : List ℕ) → Answers target l (refused 12) → (x : Record) × Relates l x × Legal x × (allows target x ≡ false)
-read-too-old target l a = promises.too-old-legal target l a
+pub read-too-old : (target : Target) (mode : Mode) (l : List ℕ) → Answers target mode l (refused 12) → (x : Record) × Relates l x × Legal x × (allows target x ≡ false)
+read-too-old target mode l a = promises.too-old-legal target mode l a
 
--- an older target gives a line what a newer one gives it, or 12 where the newer one accepts it and the older one does not allow its record
-pub older-answers : (old new : Target) (l : List ℕ) (a : Answer) → generation old ≤ generation new → Answers new l a → Answers old l (older old a)
-older-answers old new l a h q = promises.answered-older old new l a h q
+-- an older target gives a line what a newer one gives it, or 12 where the newer one accepts it and the older one does not allow its record; of T-09's 15
+-- StrictReading.antt says it
+pub older-answers : (old new : Target) (mode : Mode) (l : List ℕ) (a : Answer) → generation old ≤ generation new → (a ≡ refused 15 → ⊥) → Answers new mode l a → Answers old mode l (older old a)
+older-answers old new mode l a h z q = promises.answered-older old new mode l h a z q
 
 -- what an older target accepts, a newer one accepts with the same record
-pub accepted-later : (old new : Target) (l : List ℕ) (x : Record) → generation old ≤ generation new → Answers old l (read x) → Answers new l (read x)
-accepted-later old new l x h (accepts m q a) = accepts x q (record { legal = a .legal; allowed = targets.allows-later old new x h (a .allowed) })
+pub accepted-later : (old new : Target) (mode : Mode) (l : List ℕ) (x : Record) → generation old ≤ generation new → Answers old mode l (read x) → Answers new mode l (read x)
+accepted-later old new mode l x h (accepts m q a) =
+    accepts x q (record { allowed = record { legal = a .allowed .legal; allowed = targets.allows-later old new x h (a .allowed .allowed) }; passed = a .passed })
 
--- sm_30 gives what was given before there were targets: no line gets 12, and one that spells a legal record is accepted. By `older-answers` each other refusal is
--- every target's
-pub newest-without-12 : (l : List ℕ) → Applies Sm30 l 12 → ⊥
-newest-without-12 l (too-old x q a) = off (sym (targets.newest-allows x) ∙ a)
+-- sm_30 gives what was given before there were targets: no line gets 12, and one that spells a legal record is accepted (T-09: if the mode passes it). By
+-- `older-answers` each other refusal is every target's
+pub newest-without-12 : (mode : Mode) (l : List ℕ) → Applies Sm30 mode l 12 → ⊥
+newest-without-12 mode l (too-old x q a) = off (sym (targets.newest-allows x) ∙ a)
 
-pub newest-accepts : (l : List ℕ) (x : Record) → Relates l x → Legal x → Answers Sm30 l (read x)
-newest-accepts l x q h = accepts x q (newest-allowed x h)
+pub newest-accepts : (mode : Mode) (l : List ℕ) (x : Record) → Relates l x → Legal x → passes mode x ≡ true → Answers Sm30 mode l (read x)
+newest-accepts mode l x q h p = accepts x q (record { allowed = newest-allowed x h; passed = p })
 
 -- ==== executing: 12 straight after 8 (execute-12 of Demands.antt)
 

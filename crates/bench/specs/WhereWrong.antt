@@ -14,6 +14,7 @@ use Rattle.record.specs.declared.Guard.the-variants.{Always, When}
 use Rattle.record.specs.declared.Instruction.{Instruction}
 use Rattle.record.specs.declared.Record.{Record}
 use Rattle.record.specs.declared.Target.{Target}
+use Rattle.record.specs.declared.Mode.{Mode}
 use Rattle.rules.specs.Shape.{headText, registerText, operandText, guardText}
 use Rattle.rules.specs.Grammar.{LineTree, GuardTree, unguarded, guarded, dividedText, namesOf, operandsOf, Shaped}
 use Rattle.rules.specs.BytePlaces.{Begins, ShapedLine, guardStart, headStart, nameStart, operandsStart, operandStart, registersOf}
@@ -25,17 +26,17 @@ use Rattle.read.specs.Answering.{first-applies, placed-one, short-line}
 
 -- For 2: the first byte with which the line begins as no line of the right shape, however long, does, or the line's length if it is only
 -- unfinished: the first k bytes begin one exactly up to k = p
-pub before-2 : (target : Target) (l : List ℕ) (p : ℕ) → Answers target l (refused-at 2 p) → (k : ℕ) → k ≤ p → Begins ShapedLine (take k l)
-before-2 target l p (refuses-at f (at-byte x)) k h = before-begins ShapedLine l p k x h
+pub before-2 : (target : Target) (mode : Mode) (l : List ℕ) (p : ℕ) → Answers target mode l (refused-at 2 p) → (k : ℕ) → k ≤ p → Begins ShapedLine (take k l)
+before-2 target mode l p (refuses-at f (at-byte x)) k h = before-begins ShapedLine l p k x h
 
-pub behind-2 : (target : Target) (l : List ℕ) (p : ℕ) → Answers target l (refused-at 2 p) → (k : ℕ) → p < k → k ≤ length l → Begins ShapedLine (take k l) → ⊥
-behind-2 target l p (refuses-at f (at-byte x)) k h i = behind-begins-none ShapedLine l p k x h i
+pub behind-2 : (target : Target) (mode : Mode) (l : List ℕ) (p : ℕ) → Answers target mode l (refused-at 2 p) → (k : ℕ) → p < k → k ≤ length l → Begins ShapedLine (take k l) → ⊥
+behind-2 target mode l p (refuses-at f (at-byte x)) k h i = behind-begins-none ShapedLine l p k x h i
 
 -- (and the line has not the shape, so that the length is the place only of an unfinished one)
-pub not-shaped-2 : (target : Target) (l : List ℕ) (p : ℕ) → Answers target l (refused-at 2 p) → ShapedLine l → ⊥
-not-shaped-2 target l p (refuses-at f x) = go (first-applies target l 2 readingOrder f)
+pub not-shaped-2 : (target : Target) (mode : Mode) (l : List ℕ) (p : ℕ) → Answers target mode l (refused-at 2 p) → ShapedLine l → ⊥
+not-shaped-2 target mode l p (refuses-at f x) = go (first-applies target mode l 2 readingOrder f)
   where
-    go : Applies target l 2 → ShapedLine l → ⊥
+    go : Applies target mode l 2 → ShapedLine l → ⊥
     go (shapeless z) s = z (s .tree) (s .shaped)
 
 -- what a line is held against is wide enough: every line of the right shape, and the names and the operands of every line that fits, register
@@ -67,12 +68,12 @@ add-zero n = omega arith
 some-name : (t : LineTree) → 0 < length (namesOf t)
 some-name t = omega arith
 
-pub place-3 : (target : Target) (l : List ℕ) (p : ℕ) → Answers target l (refused-at 3 p) → WrongOpcode l p
-place-3 target l p (refuses-at f x) = go (first-applies target l 3 readingOrder f)
+pub place-3 : (target : Target) (mode : Mode) (l : List ℕ) (p : ℕ) → Answers target mode l (refused-at 3 p) → WrongOpcode l p
+place-3 target mode l p (refuses-at f x) = go (first-applies target mode l 3 readingOrder f)
   where
-    go : Applies target l 3 → WrongOpcode l p
+    go : Applies target mode l 3 → WrongOpcode l p
     go (unknown t s z) =
-        let e : headStart t + 0 ≡ p = add-zero (headStart t) ∙ placed-one l (short-line target l 3 p f x) 3 (headStart t) p (at-opcode t s) x in
+        let e : headStart t + 0 ≡ p = add-zero (headStart t) ∙ placed-one l (short-line target mode l 3 p f x) 3 (headStart t) p (at-opcode t s) x in
         record { tree = t; shaped = s; unlisted = z; stands = subst (λ (q : ℕ). Stands l q (t .opcode)) e (name-at l t s 0 (some-name t)) }
 
 -- For 4 and 5: the start of the first modifier, or of the guard or operand, that no legal list has after the ones before it (register numbers
@@ -91,14 +92,14 @@ pub record WrongModifier (l : List ℕ) (p : ℕ) : Type 0 where
   pub end : right ≡ length (namesOf tree) → p ≡ headStart tree + length (headText (namesOf tree))
 
 -- no tree of the line has the names of a row
-rowless-all : (target : Target) (l : List ℕ) (t : LineTree) → Shaped l t → length l ≤ lineLimit → Applies target l 4 → (i : Instruction) → Row (namesOf t) i → ⊥
-rowless-all target l t s h (rowless u v z) i r = z i (row-by-all l h t u s v i r)
+rowless-all : (target : Target) (mode : Mode) (l : List ℕ) (t : LineTree) → Shaped l t → length l ≤ lineLimit → Applies target mode l 4 → (i : Instruction) → Row (namesOf t) i → ⊥
+rowless-all target mode l t s h (rowless u v z) i r = z i (row-by-all l h t u s v i r)
 
-pub place-4 : (target : Target) (l : List ℕ) (p : ℕ) → Answers target l (refused-at 4 p) → WrongModifier l p
-place-4 target l p (refuses-at f (at-modifier t s k x)) = record {
+pub place-4 : (target : Target) (mode : Mode) (l : List ℕ) (p : ℕ) → Answers target mode l (refused-at 4 p) → WrongModifier l p
+place-4 target mode l p (refuses-at f (at-modifier t s k x)) = record {
   tree = t;
   shaped = s;
-  not-legal = λ r. rowless-all target l t s (short-line target l 4 p f (at-modifier t s k x)) (first-applies target l 4 readingOrder f) (r .instruction) (r .row);
+  not-legal = λ r. rowless-all target mode l t s (short-line target mode l 4 p f (at-modifier t s k x)) (first-applies target mode l 4 readingOrder f) (r .instruction) (r .row);
   right = k;
   within = x .within;
   begins = x .begins;
@@ -139,15 +140,15 @@ pub data WrongFit (l : List ℕ) (p : ℕ) : Type 0 where
   of-operand : WrongOperand l p → WrongFit l p
 
 -- no tree of the line with a right guard has a legal list of operands
-unfit-all : (target : Target) (l : List ℕ) (t : LineTree) → Shaped l t → (g : Guard) → GuardSpells (t .guard) g → length l ≤ lineLimit → Applies target l 5
+unfit-all : (target : Target) (mode : Mode) (l : List ℕ) (t : LineTree) → Shaped l t → (g : Guard) → GuardSpells (t .guard) g → length l ≤ lineLimit → Applies target mode l 5
     → LegalOperands (namesOf t) (operandsOf t) → ⊥
-unfit-all target l t s g e h (unfit u v i r z) o =
+unfit-all target mode l t s g e h (unfit u v i r z) o =
     let m : Record = record { guard = g; instruction = o .instruction } in
     let k : Spells t m = record { guard = e; head = o .row .names; operands = o .spells } in
     z m (record { spells = spelled-by-all l h t u s v m k; modifiers = o .row .fit; operands = o .fit })
 
-pub place-5 : (target : Target) (l : List ℕ) (p : ℕ) → Answers target l (refused-at 5 p) → WrongFit l p
-place-5 target l p (refuses-at f (at-guard t s k)) = go (t .guard) refl k
+pub place-5 : (target : Target) (mode : Mode) (l : List ℕ) (p : ℕ) → Answers target mode l (refused-at 5 p) → WrongFit l p
+place-5 target mode l p (refuses-at f (at-guard t s k)) = go (t .guard) refl k
   where
     go : (g : GuardTree) → t .guard ≡ g → ((h : Guard) → GuardSpells g h → ⊥) → WrongFit l (guardStart t)
     go unguarded e z = absurd (z Always tt)
@@ -161,12 +162,12 @@ place-5 target l p (refuses-at f (at-guard t s k)) = go (t .guard) refl k
       no-pred = λ i d. z (When (record { inverted = n; pred = record { 0 = i } })) (refl, d);
       stands = guard-at l t s n q b e;
     })
-place-5 target l p (refuses-at f (at-operand t s g h k x)) = of-operand (record {
+place-5 target mode l p (refuses-at f (at-operand t s g h k x)) = of-operand (record {
   tree = t;
   shaped = s;
   guard = g;
   spelled = h;
-  not-legal = unfit-all target l t s g h (short-line target l 5 p f (at-operand t s g h k x)) (first-applies target l 5 readingOrder f);
+  not-legal = unfit-all target mode l t s g h (short-line target mode l 5 p f (at-operand t s g h k x)) (first-applies target mode l 5 readingOrder f);
   right = k;
   within = x .within;
   begins = x .begins;
@@ -184,8 +185,8 @@ pub record WrongRegister (l : List ℕ) (p : ℕ) : Type 0 where
   pub outside : fileSize register ≤ numberOf register
   pub stands : Stands l p (registerText register)
 
-pub place-6 : (target : Target) (l : List ℕ) (p : ℕ) → Answers target l (refused-at 6 p) → WrongRegister l p
-place-6 target l p (refuses-at f (at-register t s o)) =
+pub place-6 : (target : Target) (mode : Mode) (l : List ℕ) (p : ℕ) → Answers target mode l (refused-at 6 p) → WrongRegister l p
+place-6 target mode l p (refuses-at f (at-register t s o)) =
     let x = outside-at l t s p o in
     record { tree = t; shaped = s; before = before-outside l t s p o; register = x .0; outside = x .1; stands = x .2 }
 
@@ -197,7 +198,7 @@ pub record WrongPair (l : List ℕ) (p : ℕ) : Type 0 where
   pub behind : p ≡ start + length (registerText (pred number) ++ bytes "|")
   pub second : Stands l p (registerText (pred number))
 
-pub place-7 : (target : Target) (l : List ℕ) (p : ℕ) → Answers target l (refused-at 7 p) → WrongPair l p
-place-7 target l p (refuses-at f (at-second t s n e)) =
+pub place-7 : (target : Target) (mode : Mode) (l : List ℕ) (p : ℕ) → Answers target mode l (refused-at 7 p) → WrongPair l p
+place-7 target mode l p (refuses-at f (at-second t s n e)) =
     let x = second-at l t s (pred n) e in
     record { number = n; start = operandsStart t; first = x .0; behind = refl; second = x .1 }

@@ -1,6 +1,7 @@
 // The bench: a line is read, a record is written, a record is executed. What the three promise together stands in specs/Demands.antt.
 use execute::Executed;
 use read::Reading;
+use record::Mode;
 use record::Record;
 use record::Target;
 use write::Written;
@@ -14,11 +15,11 @@ ghost use Rattle.execute.specs.Answers as executed;
 ghost use Rattle.read.specs.Paper.{answerOf};
 ghost use Rattle.write.specs.Answers as written;
 
-// The record that the line spells, or the first refusal of 1 to 7 and 12 that applies at the target.
-pub fn read(target: Target, line: &[u8]) -> Reading
-    ensures { λ a. ⌜ Answers target (now (line .entry)) (answerOf a) ⌝ }
+// The record that the line spells, or the first refusal of 1 to 7, 12 and 15 that applies at the target and in the mode.
+pub fn read(target: Target, mode: Mode, line: &[u8]) -> Reading
+    ensures { λ a. ⌜ Answers target mode (now (line .entry)) (answerOf a) ⌝ }
 {
-    read::read(target, line)
+    read::read(target, mode, line)
 }
 
 // The record's standard line at the front of buf, and its length; or 8 or 9, and buf as it was.

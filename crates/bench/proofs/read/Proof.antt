@@ -24,4 +24,4 @@ read-spec = tie.close (tie.spec read-requires returns)
 pub read-one-outcome :
     (κs : Lfts 1) (a : Dens κs kinds.ps) (x y : Reading) (s t : AtExit (endedOf 1 kinds.ps kinds.r) κs)
     → reads.Post κs a x s → reads.Post κs a y t → x ≡ y
-read-one-outcome κs a x y s t p q = answers-one x y (answers-unique _ _ _ _ p q)
+read-one-outcome κs a x y s t p q = answers-one x y (answers-unique _ _ _ _ _ p q)
