@@ -1,9 +1,10 @@
 // The listing program: reads standard input and prints what crates `report` and `changes` make of it, some lines at a time, then the registers.
-// Its argument, if it has one, is the target's name.
+// Its first argument, if it has one, is the target's name; a second one, `strict`, asks for strict reading.
 use changes::Printed;
 use libc::STDERR_FILENO;
 use libc::STDIN_FILENO;
 use libc::STDOUT_FILENO;
+use record::Mode;
 use record::Target;
 use targets::Named;
 ghost use Prim.Native.Nat.{_≤_};
@@ -28,6 +29,7 @@ fn say_first(s: &[u8], n: usize) -> bool {
 // Calls `some_lines` until the listing ends, and prints what each call has put into the buffer; false, and no more is printed, where the system does not take it.
 fn say_lines(
     target: Target,
+    mode: Mode,
     listing: &[u8],
     words: &mut [u32],
     halves: &mut [u16],
@@ -36,13 +38,14 @@ fn say_lines(
     out: &mut [u8],
 ) -> bool
     requires { ⌜ lineRoom ≤ length (now out) ⌝ }
-    ensures { λ r. ⌜ (r ≡ true → Told target (now (listing .entry)) (files (now (words .entry)) (now (halves .entry)) (now (doubles .entry)) (now (preds .entry))) (files (now (words .exit)) (now (halves .exit)) (now (doubles .exit)) (now (preds .exit)))) ⌝ }
+    ensures { λ r. ⌜ (r ≡ true → Told target mode (now (listing .entry)) (files (now (words .entry)) (now (halves .entry)) (now (doubles .entry)) (now (preds .entry))) (files (now (words .exit)) (now (halves .exit)) (now (doubles .exit)) (now (preds .exit)))) ⌝ }
 {
     let mut at = 0;
     let mut number = 1;
     while at < listing.len() {
         let p = report::some_lines(
             target,
+            mode,
             listing,
             at,
             number,
@@ -68,7 +71,7 @@ fn say_registers(words: &[u32], halves: &[u16], doubles: &[u64], preds: &[u8], o
     }
 }
 
-fn say_listing(target: Target, listing: &[u8]) {
+fn say_listing(target: Target, mode: Mode, listing: &[u8]) {
     let mut words = changes::start_words();
     let mut halves = changes::start_halves();
     let mut doubles = changes::start_doubles();
@@ -76,6 +79,7 @@ fn say_listing(target: Target, listing: &[u8]) {
     let mut out = [0u8; 65536];
     if say_lines(
         target,
+        mode,
         listing,
         &mut words,
         &mut halves,
@@ -87,13 +91,16 @@ fn say_listing(target: Target, listing: &[u8]) {
     }
 }
 
+// How a listing is worked, or the arguments are not what they may be.
+enum Asked {
+    Way(Target, Mode),
+    Wrong,
+}
+
 // The listing uses sm_30, unless another is given.
 fn target_given() -> Named {
     if os::arg_count() < 2 {
         return Named::Is(Target::Sm30);
-    }
-    if 2 < os::arg_count() {
-        return Named::Unknown;
     }
     // Of a longer word `arg` answers no byte, which is no name either.
     let mut name = [0u8; 5];
@@ -101,15 +108,35 @@ fn target_given() -> Named {
     targets::target_of(&name[..n])
 }
 
-fn main() {
+// The listing is ordinary, unless `strict` is given.
+fn way_at(target: Target) -> Asked {
+    if os::arg_count() < 3 {
+        return Asked::Way(target, Mode::Ordinary);
+    }
+    let mut name = [0u8; 6];
+    let n = os::arg(2, &mut name);
+    if (os::arg_count() == 3) & text::same(&name[..n], b"strict") {
+        return Asked::Way(target, Mode::Strict);
+    }
+    Asked::Wrong
+}
+
+fn way_given() -> Asked {
     let Named::Is(target) = target_given() else {
+        return Asked::Wrong;
+    };
+    way_at(target)
+}
+
+fn main() {
+    let Asked::Way(target, mode) = way_given() else {
         io::write_all(
             STDERR_FILENO,
-            b"listing: the target is sm_10, sm_13, sm_20 or sm_30, one of them\n",
+            b"listing: the target is sm_10, sm_13, sm_20 or sm_30, one of them; behind it may stand `strict`, and nothing else\n",
         );
         return;
     };
     let mut input = [0u8; INPUT];
     let n = io::read_full(STDIN_FILENO, &mut input);
-    say_listing(target, &input[..n]);
+    say_listing(target, mode, &input[..n]);
 }

@@ -1,8 +1,10 @@
 // Reads the corpus on standard input, an answer, a tab and a line to each text line, and prints the entries whose answer is not the reader's own, with that, and
 // how many entries there were. A byte of a line may be written as \xHH. An answer may have a target and a space in front; without one it is that of sm_30.
+// In front of all that, `strict` and a space ask for strict reading.
 use libc::STDIN_FILENO;
 use libc::STDOUT_FILENO;
 use read::Reading;
+use record::Mode;
 use record::Record;
 use record::Target;
 use targets::Named;
@@ -20,6 +22,9 @@ const ANSWER: usize = 83;
 
 // A target's name has so many bytes.
 const NAME: usize = 5;
+
+// So has `strict`, with its space.
+const STRICT: usize = 7;
 
 fn say(s: &[u8]) {
     io::write_all(STDOUT_FILENO, s);
@@ -92,8 +97,8 @@ fn put_placed(n: u8, place: usize, out: &mut [u8]) -> usize {
     text::put_decimal(out, next, place as u64)
 }
 
-fn put_answer(target: Target, line: &[u8], out: &mut [u8]) -> usize {
-    match read::read(target, line) {
+fn put_answer(target: Target, mode: Mode, line: &[u8], out: &mut [u8]) -> usize {
+    match read::read(target, mode, line) {
         Reading::Record(r) => put_record(r, out),
         Reading::Refused(n) => text::put_decimal(out, 0, n as u64),
         Reading::RefusedAt(n, place) => put_placed(n, place, out),
@@ -102,20 +107,6 @@ fn put_answer(target: Target, line: &[u8], out: &mut [u8]) -> usize {
 
 fn first(s: &[u8], n: usize) -> &[u8] {
     if n <= s.len() { &s[0..n] } else { s }
-}
-
-fn same(a: &[u8], b: &[u8]) -> bool {
-    if a.len() != b.len() {
-        return false;
-    }
-    let mut k = 0;
-    while k < a.len() {
-        if a[k] != scan::byte(b, k) {
-            return false;
-        }
-        k += 1;
-    }
-    true
 }
 
 // ---- the corpus
@@ -136,7 +127,7 @@ fn next(s: &[u8], k: usize, b: u8) -> usize
 }
 
 fn judge(wanted: &[u8], got: &[u8], entry: &[u8]) {
-    if same(wanted, got) {
+    if text::same(wanted, got) {
         return;
     }
     say(entry);
@@ -145,24 +136,36 @@ fn judge(wanted: &[u8], got: &[u8], entry: &[u8]) {
     say(b"\n");
 }
 
-// The answer at the target begins at `from`.
-fn try_at(target: Target, from: usize, entry: &[u8]) {
+fn try_at(target: Target, mode: Mode, wanted: &[u8], written: &[u8], entry: &[u8]) {
     let mut line = [0u8; 512];
     let mut answer = [0u8; ANSWER];
-    let tab = next(entry, 0, b'\t');
-    if tab < entry.len() {
-        let n = decode(&entry[tab + 1..], &mut line);
-        let m = put_answer(target, first(&line, n), &mut answer);
-        if from <= tab {
-            judge(&entry[from..tab], first(&answer, m), entry);
-        }
+    let n = decode(written, &mut line);
+    let m = put_answer(target, mode, first(&line, n), &mut answer);
+    judge(wanted, first(&answer, m), entry);
+}
+
+fn behind(s: &[u8], n: usize) -> &[u8] {
+    if n <= s.len() { &s[n..] } else { s }
+}
+
+// A target may stand in front of what is wanted.
+fn try_in(mode: Mode, wanted: &[u8], written: &[u8], entry: &[u8]) {
+    match targets::target_of(first(wanted, NAME)) {
+        Named::Is(target) => try_at(target, mode, behind(wanted, NAME + 1), written, entry),
+        Named::Unknown => try_at(Target::Sm30, mode, wanted, written, entry),
     }
 }
 
 fn try_entry(entry: &[u8]) {
-    match targets::target_of(first(entry, NAME)) {
-        Named::Is(target) => try_at(target, NAME + 1, entry),
-        Named::Unknown => try_at(Target::Sm30, 0, entry),
+    let tab = next(entry, 0, b'\t');
+    if tab < entry.len() {
+        let wanted = first(entry, tab);
+        let written = behind(entry, tab + 1);
+        if text::same(first(wanted, STRICT), b"strict ") {
+            try_in(Mode::Strict, behind(wanted, STRICT), written, entry);
+        } else {
+            try_in(Mode::Ordinary, wanted, written, entry);
+        }
     }
 }
 

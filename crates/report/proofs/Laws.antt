@@ -10,6 +10,7 @@ use Rattle.signs.specs.Text.{bytes}
 use Rattle.record.specs.Refusals.{Legal}
 use Rattle.record.specs.declared.Record.{Record}
 use Rattle.record.specs.declared.Target.{Target}
+use Rattle.record.specs.declared.Mode.{Mode}
 use Rattle.record.specs.Registers.{Files, at}
 use Rattle.rules.specs.StandardLine.{standard}
 use Rattle.laws.specs.LineLengths.{standard-fits}
@@ -47,10 +48,10 @@ module _ (r : Record) (x y : List ℕ) (h : Legal r) (n : length x ≡ 160) wher
 -- ==== a line
 
 -- a line's text is made of its number, a space, its answer and a line feed
-pub turn-put : {target : Target} {n : ℕ} {l : List ℕ} {f g : Files} {x y z w v : Buffer}
-    → Puts x (decimal n) y → Puts y (bytes " ") z → PutsAnswer target l f g z w → Puts w (lineFeed ∷ []) v → PutsTurn target n l f g x v
+pub turn-put : {target : Target} {mode : Mode} {n : ℕ} {l : List ℕ} {f g : Files} {x y z w v : Buffer}
+    → Puts x (decimal n) y → Puts y (bytes " ") z → PutsAnswer target mode l f g z w → Puts w (lineFeed ∷ []) v → PutsTurn target mode n l f g x v
 unfolding printedLine
-turn-put {target} {n} {l} {f} {g} a b p d =
+turn-put {target} {mode} {n} {l} {f} {g} a b p d =
     record {
       text = printedLine target n (p .answer) f;
       turn = record { answer = p .answer; answers = p .answers; text = refl; files = p .files };

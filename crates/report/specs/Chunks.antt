@@ -6,6 +6,7 @@ use mathlib.Core.List.{List, [], _∷_, _++_}
 use lib.ListN.{length, take, drop}
 use lib.Dec.{eqb, ltb}
 use Rattle.record.specs.declared.Target.{Target}
+use Rattle.record.specs.declared.Mode.{Mode}
 use Rattle.record.specs.Registers.{Files}
 use Rattle.rules.specs.Writing.{front}
 use Rattle.laws.specs.LineLengths.{longestLine}
@@ -36,16 +37,16 @@ abbrev pub nextNumber : ℕ → ℕ
 nextNumber n = (n + 1) % 2 ^ 64
 
 -- a line l on files f, which are g then: its answer is put, behind x, to y
-pub record PutsAnswer (target : Target) (l : List ℕ) (f g : Files) (x y : Buffer) : Type 0 where
+pub record PutsAnswer (target : Target) (mode : Mode) (l : List ℕ) (f g : Files) (x y : Buffer) : Type 0 where
   pub answer : Answer
-  pub answers : Answers target l answer
+  pub answers : Answers target mode l answer
   pub files : g ≡ filesAfter target answer f
   pub puts : Puts x (answerText target answer f) y
 
 -- and so is the text of line number n
-pub record PutsTurn (target : Target) (n : ℕ) (l : List ℕ) (f g : Files) (x y : Buffer) : Type 0 where
+pub record PutsTurn (target : Target) (mode : Mode) (n : ℕ) (l : List ℕ) (f g : Files) (x y : Buffer) : Type 0 where
   pub text : List ℕ
-  pub turn : Turn target n l f text g
+  pub turn : Turn target mode n l f text g
   pub puts : Puts x text y
 
 -- as many bytes as a line's text has at most: its number, ` skipped `, a standard line, a line feed
@@ -53,21 +54,21 @@ abbrev pub lineRoom : ℕ
 lineRoom = mostDigits + 9 + longestLine + 1
 
 -- from a place on, where line number n begins, on files f, with room for so many bytes: the text t, and where it stopped, with which number and files
-pub data SomeLines (target : Target) (s : List ℕ) : ℕ → ℕ → ℕ → Files → List ℕ → ℕ → ℕ → Files → Type 0 where
-  ended : {room from n : ℕ} {f : Files} → length s ≤ from → SomeLines target s room from n f [] from n f
-  no-room : {room from n : ℕ} {f : Files} → from < length s → room < lineRoom → SomeLines target s room from n f [] from n f
-  too-long : {room from n : ℕ} {f : Files} → from < length s → lineRoom ≤ room → listingLimit < length s → SomeLines target s room from n f tooLongText (length s) n f
+pub data SomeLines (target : Target) (mode : Mode) (s : List ℕ) : ℕ → ℕ → ℕ → Files → List ℕ → ℕ → ℕ → Files → Type 0 where
+  ended : {room from n : ℕ} {f : Files} → length s ≤ from → SomeLines target mode s room from n f [] from n f
+  no-room : {room from n : ℕ} {f : Files} → from < length s → room < lineRoom → SomeLines target mode s room from n f [] from n f
+  too-long : {room from n : ℕ} {f : Files} → from < length s → lineRoom ≤ room → listingLimit < length s → SomeLines target mode s room from n f tooLongText (length s) n f
   one-more : {room from n e m : ℕ} {f g h : Files} {t u : List ℕ} → from < length s → lineRoom ≤ room → length s ≤ listingLimit
-      → Turn target n (lineAt s from) f t g → SomeLines target s (room - length t) (nextPlace s from) (nextNumber n) g u e m h → SomeLines target s room from n f (t ++ u) e m h
+      → Turn target mode n (lineAt s from) f t g → SomeLines target mode s (room - length t) (nextPlace s from) (nextNumber n) g u e m h → SomeLines target mode s room from n f (t ++ u) e m h
 
 -- the text stands at the front of the lent buffer, whose length was room; behind it all is as it was
-pub record Prints (target : Target) (s : List ℕ) (from n : ℕ) (f : Files) (out : List ℕ) (e m len : ℕ) (g : Files) (after : List ℕ) : Type 0 where
+pub record Prints (target : Target) (mode : Mode) (s : List ℕ) (from n : ℕ) (f : Files) (out : List ℕ) (e m len : ℕ) (g : Files) (after : List ℕ) : Type 0 where
   pub text : List ℕ
-  pub some : SomeLines target s (length out) from n f text e m g
+  pub some : SomeLines target mode s (length out) from n f text e m g
   pub length-of : len ≡ length text
   pub buffer : after ≡ front text out
 
 -- calls of `some_lines`, each from where the one before it stopped, each with room for a line, until the listing ends
-pub data Calls (target : Target) (s : List ℕ) : ℕ → ℕ → Files → List ℕ → Files → Type 0 where
-  none : {from n : ℕ} {f : Files} → length s ≤ from → Calls target s from n f [] f
-  more : {room from n e m : ℕ} {f g h : Files} {t u : List ℕ} → from < length s → lineRoom ≤ room → SomeLines target s room from n f t e m g → Calls target s e m g u h → Calls target s from n f (t ++ u) h
+pub data Calls (target : Target) (mode : Mode) (s : List ℕ) : ℕ → ℕ → Files → List ℕ → Files → Type 0 where
+  none : {from n : ℕ} {f : Files} → length s ≤ from → Calls target mode s from n f [] f
+  more : {room from n e m : ℕ} {f g h : Files} {t u : List ℕ} → from < length s → lineRoom ≤ room → SomeLines target mode s room from n f t e m g → Calls target mode s e m g u h → Calls target mode s from n f (t ++ u) h

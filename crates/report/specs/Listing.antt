@@ -1,4 +1,5 @@
--- Document 01, the listing program (under "Bench figures"): what it prints of a listing, T-07: at a target; the listing uses sm_30.
+-- Document 01, the listing program (under "Bench figures"): what it prints of a listing, T-07: at a target; the listing uses sm_30;
+-- T-09: and in a mode; the listing is ordinary unless strict reading is asked for.
 use Prim.Native.Nat.{ℕ, suc, _≤_, _<_}
 use mathlib.Core.Path.{_≡_}
 use mathlib.Core.Bool.{cond}
@@ -8,6 +9,7 @@ use lib.Dec.{eqb}
 use Rattle.signs.specs.Text.{bytes}
 use Rattle.record.specs.declared.Record.{Record}
 use Rattle.record.specs.declared.Target.{Target}
+use Rattle.record.specs.declared.Mode.{Mode}
 use Rattle.record.specs.Registers.{Files}
 use Rattle.rules.specs.Executing.{done, skipped, run}
 use Rattle.rules.specs.Executing as executing
@@ -70,21 +72,21 @@ unfoldable pub printedLine : Target → ℕ → Answer → Files → List ℕ
 printedLine target n a f = decimal n ++ bytes " " ++ answerText target a f ++ (lineFeed ∷ [])
 
 -- line number n, which is l, on files f: the text t is printed, the files are g then
-pub record Turn (target : Target) (n : ℕ) (l : List ℕ) (f : Files) (t : List ℕ) (g : Files) : Type 0 where
+pub record Turn (target : Target) (mode : Mode) (n : ℕ) (l : List ℕ) (f : Files) (t : List ℕ) (g : Files) : Type 0 where
   pub answer : Answer
-  pub answers : Answers target l answer
+  pub answers : Answers target mode l answer
   pub text : t ≡ printedLine target n answer f
   pub files : g ≡ filesAfter target answer f
 
 -- the lines one after another, the first with number n
-pub data Turns (target : Target) : ℕ → List (List ℕ) → Files → List ℕ → Files → Type 0 where
-  none : {n : ℕ} {f : Files} → Turns target n [] f [] f
-  more : {n : ℕ} {l : List ℕ} {ls : List (List ℕ)} {f g h : Files} {t u : List ℕ} → Turn target n l f t g → Turns target (suc n) ls g u h → Turns target n (l ∷ ls) f (t ++ u) h
+pub data Turns (target : Target) (mode : Mode) : ℕ → List (List ℕ) → Files → List ℕ → Files → Type 0 where
+  none : {n : ℕ} {f : Files} → Turns target mode n [] f [] f
+  more : {n : ℕ} {l : List ℕ} {ls : List (List ℕ)} {f g h : Files} {t u : List ℕ} → Turn target mode n l f t g → Turns target mode (suc n) ls g u h → Turns target mode n (l ∷ ls) f (t ++ u) h
 
 -- ==== the whole output
 
-pub data Output (target : Target) (s : List ℕ) : List ℕ → Type 0 where
+pub data Output (target : Target) (mode : Mode) (s : List ℕ) : List ℕ → Type 0 where
   -- more: it prints `input too long` alone
-  too-long : listingLimit < length s → Output target s tooLongText
+  too-long : listingLimit < length s → Output target mode s tooLongText
   -- a line for each line, then the registers
-  printed : {t : List ℕ} {g : Files} → length s ≤ listingLimit → Turns target 1 (linesOf s) startFiles t g → Output target s (t ++ registersText g)
+  printed : {t : List ℕ} {g : Files} → length s ≤ listingLimit → Turns target mode 1 (linesOf s) startFiles t g → Output target mode s (t ++ registersText g)

@@ -1,6 +1,7 @@
-// What the listing program prints of a listing's lines at a target: each with its answer. Crate changes prints the registers behind them.
+// What the listing program prints of a listing's lines at a target and in a mode: each with its answer. Crate changes prints the registers behind them.
 use execute::Executed;
 use read::Reading;
+use record::Mode;
 use record::Record;
 use record::Target;
 use write::Written;
@@ -111,9 +112,10 @@ fn put_run(
     put_executed(out, at, r, x)
 }
 
-// Reads the line at the target and, where it is a record, executes it.
+// Reads the line at the target and in the mode and, where it is a record, executes it.
 fn put_answer(
     target: Target,
+    mode: Mode,
     out: &mut [u8],
     at: usize,
     line: &[u8],
@@ -122,9 +124,9 @@ fn put_answer(
     doubles: &mut [u64],
     preds: &mut [u8],
 ) -> usize
-    ensures { λ m. ⌜ PutsAnswer target (now (line .entry)) (files (now (words .entry)) (now (halves .entry)) (now (doubles .entry)) (now (preds .entry))) (files (now (words .exit)) (now (halves .exit)) (now (doubles .exit)) (now (preds .exit))) (buffer (now (out .entry)) at) (buffer (now (out .exit)) m) ⌝ }
+    ensures { λ m. ⌜ PutsAnswer target mode (now (line .entry)) (files (now (words .entry)) (now (halves .entry)) (now (doubles .entry)) (now (preds .entry))) (files (now (words .exit)) (now (halves .exit)) (now (doubles .exit)) (now (preds .exit))) (buffer (now (out .entry)) at) (buffer (now (out .exit)) m) ⌝ }
 {
-    match read::read(target, line) {
+    match read::read(target, mode, line) {
         Reading::Record(r) => put_run(target, out, at, r, words, halves, doubles, preds),
         Reading::Refused(n) => put_refused(out, at, n),
         Reading::RefusedAt(n, place) => put_placed(out, at, n, place),
@@ -134,6 +136,7 @@ fn put_answer(
 // The text of line number `number`: its number, what became of it, a line feed.
 fn put_line(
     target: Target,
+    mode: Mode,
     out: &mut [u8],
     at: usize,
     number: u64,
@@ -143,11 +146,11 @@ fn put_line(
     doubles: &mut [u64],
     preds: &mut [u8],
 ) -> usize
-    ensures { λ m. ⌜ PutsTurn target number (now (line .entry)) (files (now (words .entry)) (now (halves .entry)) (now (doubles .entry)) (now (preds .entry))) (files (now (words .exit)) (now (halves .exit)) (now (doubles .exit)) (now (preds .exit))) (buffer (now (out .entry)) at) (buffer (now (out .exit)) m) ⌝ }
+    ensures { λ m. ⌜ PutsTurn target mode number (now (line .entry)) (files (now (words .entry)) (now (halves .entry)) (now (doubles .entry)) (now (preds .entry))) (files (now (words .exit)) (now (halves .exit)) (now (doubles .exit)) (now (preds .exit))) (buffer (now (out .entry)) at) (buffer (now (out .exit)) m) ⌝ }
 {
     let at1 = text::put_decimal(out, at, number);
     let at2 = text::push(out, at1, b' ');
-    let at3 = put_answer(target, out, at2, line, words, halves, doubles, preds);
+    let at3 = put_answer(target, mode, out, at2, line, words, halves, doubles, preds);
     text::push(out, at3, LINE_FEED)
 }
 
@@ -187,6 +190,7 @@ fn goes_on(size: usize, at: usize, room: usize) -> bool
 
 fn print_lines(
     target: Target,
+    mode: Mode,
     listing: &[u8],
     from: usize,
     first: u64,
@@ -197,7 +201,7 @@ fn print_lines(
     out: &mut [u8],
 ) -> Progress
     requires { ⌜ length (now listing) ≤ listingLimit ⌝ }
-    ensures { λ r. ⌜ Prints target (now (listing .entry)) from first (files (now (words .entry)) (now (halves .entry)) (now (doubles .entry)) (now (preds .entry))) (now (out .entry)) (r .at) (r .number) (r .len) (files (now (words .exit)) (now (halves .exit)) (now (doubles .exit)) (now (preds .exit))) (now (out .exit)) ⌝ }
+    ensures { λ r. ⌜ Prints target mode (now (listing .entry)) from first (files (now (words .entry)) (now (halves .entry)) (now (doubles .entry)) (now (preds .entry))) (now (out .entry)) (r .at) (r .number) (r .len) (files (now (words .exit)) (now (halves .exit)) (now (doubles .exit)) (now (preds .exit))) (now (out .exit)) ⌝ }
 {
     let mut at = from;
     let mut number = first;
@@ -206,6 +210,7 @@ fn print_lines(
         let end = line_end(listing, at);
         used = put_line(
             target,
+            mode,
             out,
             used,
             number,
@@ -228,7 +233,7 @@ fn print_lines(
 // A listing over the limit: one text, and the listing is at its end.
 fn too_long(listing: &[u8], from: usize, first: u64, out: &mut [u8]) -> Progress
     requires { ⌜ listingLimit < length (now listing) ⌝ }
-    ensures { λ r. ⌜ ((target : Target) (f : Files) → Prints target (now (listing .entry)) from first f (now (out .entry)) (r .at) (r .number) (r .len) f (now (out .exit))) ⌝ }
+    ensures { λ r. ⌜ ((target : Target) (mode : Mode) (f : Files) → Prints target mode (now (listing .entry)) from first f (now (out .entry)) (r .at) (r .number) (r .len) f (now (out .exit))) ⌝ }
 {
     if !goes_on(listing.len(), from, out.len()) {
         return Progress {
@@ -245,9 +250,10 @@ fn too_long(listing: &[u8], from: usize, first: u64, out: &mut [u8]) -> Progress
     }
 }
 
-// The lines at a target, from a place on, where line number `first` begins, as many as there are and as out has room for.
+// The lines at a target and in a mode, from a place on, where line number `first` begins, as many as there are and as out has room for.
 pub fn some_lines(
     target: Target,
+    mode: Mode,
     listing: &[u8],
     from: usize,
     first: u64,
@@ -257,13 +263,14 @@ pub fn some_lines(
     preds: &mut [u8],
     out: &mut [u8],
 ) -> Progress
-    ensures { λ r. ⌜ Prints target (now (listing .entry)) from first (files (now (words .entry)) (now (halves .entry)) (now (doubles .entry)) (now (preds .entry))) (now (out .entry)) (r .at) (r .number) (r .len) (files (now (words .exit)) (now (halves .exit)) (now (doubles .exit)) (now (preds .exit))) (now (out .exit)) ⌝ }
+    ensures { λ r. ⌜ Prints target mode (now (listing .entry)) from first (files (now (words .entry)) (now (halves .entry)) (now (doubles .entry)) (now (preds .entry))) (now (out .entry)) (r .at) (r .number) (r .len) (files (now (words .exit)) (now (halves .exit)) (now (doubles .exit)) (now (preds .exit))) (now (out .exit)) ⌝ }
 {
     if LISTING_LIMIT < listing.len() {
         return too_long(listing, from, first, out);
     }
     print_lines(
         target,
+        mode,
         listing,
         from,
         first,

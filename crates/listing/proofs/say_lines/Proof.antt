@@ -16,20 +16,20 @@ IsFalse false = Unit {0}
 IsFalse true = ⊥
 
 abbrev Inv-loop : tie.InvT-loop
-Inv-loop target listing words₀ halves₀ doubles₀ preds₀ out₀ at₀ number₀ words halves doubles preds out at number =
+Inv-loop target mode listing words₀ halves₀ doubles₀ preds₀ out₀ at₀ number₀ words halves doubles preds out at number =
     (lineRoom ≤ length out)
     × (length words ≡ length words₀)
     × (length halves ≡ length halves₀)
     × (length doubles ≡ length doubles₀)
     × (length preds ≡ length preds₀)
     × (length out ≡ length out₀)
-    × Called target listing (files words₀ halves₀ doubles₀ preds₀) at number (files words halves doubles preds)
+    × Called target mode listing (files words₀ halves₀ doubles₀ preds₀) at number (files words halves doubles preds)
 
 abbrev μ-loop : tie.MeasureT-loop
-μ-loop target listing words₀ halves₀ doubles₀ preds₀ out₀ at₀ number₀ words halves doubles preds out at number = length listing - at
+μ-loop target mode listing words₀ halves₀ doubles₀ preds₀ out₀ at₀ number₀ words halves doubles preds out at number = length listing - at
 
 loop-holds : tie.Need-loop-holds Inv-loop μ-loop
-loop-holds c = (search needs, search needs, search needs, search needs, search needs, search needs, none-called _ _ _)
+loop-holds c = (search needs, search needs, search needs, search needs, search needs, search needs, none-called _ _ _ _)
 
 some-lines-requires : tie.Need-some-lines-requires Inv-loop μ-loop
 some-lines-requires c κs = search needs

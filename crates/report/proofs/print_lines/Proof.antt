@@ -15,21 +15,21 @@ use Rattle.report.proofs.print_lines.Statement.{statement}
 use Rattle.report.proofs.print_lines.Tie as tie
 
 abbrev Inv-loop : tie.InvT-loop
-Inv-loop target listing from first words₀ halves₀ doubles₀ preds₀ out₀ at₀ number₀ used₀ words halves doubles preds out at number used =
+Inv-loop target mode listing from first words₀ halves₀ doubles₀ preds₀ out₀ at₀ number₀ used₀ words halves doubles preds out at number used =
     (used ≤ length out₀)
     × (length words ≡ length words₀)
     × (length halves ≡ length halves₀)
     × (length doubles ≡ length doubles₀)
     × (length preds ≡ length preds₀)
     × (length out ≡ length out₀)
-    × Going target listing from first (files words₀ halves₀ doubles₀ preds₀) out₀ at number used (files words halves doubles preds) out
+    × Going target mode listing from first (files words₀ halves₀ doubles₀ preds₀) out₀ at number used (files words halves doubles preds) out
     × (number < 2 ^ 64)
 
 abbrev μ-loop : tie.MeasureT-loop
-μ-loop target listing from first words₀ halves₀ doubles₀ preds₀ out₀ at₀ number₀ used₀ words halves doubles preds out at number used = length listing - at
+μ-loop target mode listing from first words₀ halves₀ doubles₀ preds₀ out₀ at₀ number₀ used₀ words halves doubles preds out at number used = length listing - at
 
 loop-holds : tie.Need-loop-holds Inv-loop μ-loop
-loop-holds c = (search needs, search needs, search needs, search needs, search needs, search needs, begins _ _ _ _ _ _, search needs)
+loop-holds c = (search needs, search needs, search needs, search needs, search needs, search needs, begins _ _ _ _ _ _ _, search needs)
 
 sub-goes-on : tie.Need-sub-goes-on Inv-loop μ-loop
 sub-goes-on c = search needs

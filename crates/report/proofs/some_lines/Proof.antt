@@ -18,7 +18,7 @@ same-length : tie.Need-same-length
 same-length c = search needs
 
 returns : tie.Need-returns
-returns c = c .before .before .too-long .ensures (c .before .before .before .before .before .before .before .before .before .before .before .args .target) (files (now (c .before .before .before .before .before .before .before .before .before .before .before .args .words)) (now (c .before .before .before .before .before .before .before .before .before .before .before .args .halves)) (now (c .before .before .before .before .before .before .before .before .before .before .before .args .doubles)) (now (c .before .before .before .before .before .before .before .before .before .before .before .args .preds)))
+returns c = c .before .before .too-long .ensures (c .before .before .before .before .before .before .before .before .before .before .before .args .target) (c .before .before .before .before .before .before .before .before .before .before .before .args .mode) (files (now (c .before .before .before .before .before .before .before .before .before .before .before .args .words)) (now (c .before .before .before .before .before .before .before .before .before .before .before .args .halves)) (now (c .before .before .before .before .before .before .before .before .before .before .before .args .doubles)) (now (c .before .before .before .before .before .before .before .before .before .before .before .args .preds)))
 
 print-lines-requires : tie.Need-print-lines-requires
 print-lines-requires c κs = search needs
@@ -60,6 +60,6 @@ some-lines-spec =
 pub some-lines-one-outcome :
     (κs : Lfts 6) (a : Dens κs kinds.ps) (x y : Progress) (s t : AtExit (endedOf 6 kinds.ps kinds.r) κs)
     → reads.Post κs a x s → reads.Post κs a y t
-    → SameCall x y (files (now (s .1 .1 .1 .1 .0)) (now (s .1 .1 .1 .1 .1 .0)) (now (s .1 .1 .1 .1 .1 .1 .0)) (now (s .1 .1 .1 .1 .1 .1 .1 .0))) (files (now (t .1 .1 .1 .1 .0)) (now (t .1 .1 .1 .1 .1 .0)) (now (t .1 .1 .1 .1 .1 .1 .0)) (now (t .1 .1 .1 .1 .1 .1 .1 .0)))
-    (now (s .1 .1 .1 .1 .1 .1 .1 .1 .0)) (now (t .1 .1 .1 .1 .1 .1 .1 .1 .0))
+    → SameCall x y (files (now (s .1 .1 .1 .1 .1 .0)) (now (s .1 .1 .1 .1 .1 .1 .0)) (now (s .1 .1 .1 .1 .1 .1 .1 .0)) (now (s .1 .1 .1 .1 .1 .1 .1 .1 .0))) (files (now (t .1 .1 .1 .1 .1 .0)) (now (t .1 .1 .1 .1 .1 .1 .0)) (now (t .1 .1 .1 .1 .1 .1 .1 .0)) (now (t .1 .1 .1 .1 .1 .1 .1 .1 .0)))
+    (now (s .1 .1 .1 .1 .1 .1 .1 .1 .1 .0)) (now (t .1 .1 .1 .1 .1 .1 .1 .1 .1 .0))
 some-lines-one-outcome κs a x y s t p q = prints-one x y p q

@@ -11,7 +11,7 @@ goes-on-requires : tie.Need-goes-on-requires
 goes-on-requires c κs = search needs
 
 returns : tie.Need-returns
-returns c = λ t f. none-printed t _ _ _ f _ (failed (c .before .goes-on .ensures) (c .if1 .taken))
+returns c = λ t m f. none-printed t m _ _ _ f _ (failed (c .before .goes-on .ensures) (c .if1 .taken))
 
 slice-aggregate-put : tie.Need-slice-aggregate-put
 slice-aggregate-put c = search needs
@@ -25,7 +25,7 @@ same-length c = search needs
 returns-2 : tie.Need-returns-2
 returns-2 c =
     let h = room-there (length (now (c .before .before .before .before .before .before .before .before .before .args .listing))) (c .before .before .before .before .before .before .before .before .before .args .from) (length (now (c .before .before .before .before .before .before .before .before .before .args .out))) (c .before .before .before .before .before .before .goes-on .ensures) (not-false _ (c .before .before .before .before .before .if1 .left)) in
-    λ t f. over-limit (h .0) (h .1) (c .before .before .before .before .before .before .before .before .before .pre) (c .before .before .put .ensures)
+    λ t m f. over-limit (h .0) (h .1) (c .before .before .before .before .before .before .before .before .before .pre) (c .before .before .put .ensures)
 
 pub too-long-spec : {M : Type 1} → statement M
 too-long-spec =
