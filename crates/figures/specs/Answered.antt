@@ -1,5 +1,5 @@
--- Lines and the answers that document 01, T-05, T-06 and T-07 give them: lines that are read, each refusal 1 to 7, from 2 on with its place, 12, and lines to which more than one
--- applies. One list with one claim. Then whole listings, document 01's own and one at each target, with what is printed of them, and their claim.
+-- Lines and the answers that document 01, T-05, T-06, T-07 and T-09 give them: lines that are read, each refusal 1 to 7, from 2 on with its place, 12, 15, and lines to which more
+-- than one applies. One list with one claim. Then whole listings, document 01's own, one at each target and one in each mode, with what is printed of them, and their claim.
 use Prim.Native.Nat.{ℕ}
 use Prim.Native.String.{String}
 use mathlib.Core.Path.{_≡_, refl, subst}
@@ -14,9 +14,12 @@ use Rattle.signs.specs.Digits.{decimal, decimalIn, hex}
 use Rattle.signs.specs.Text.{bytes}
 use Rattle.base.specs.Pack.{codeOf}
 use Rattle.record.specs.Refusals.{isLegal}
+use Rattle.record.specs.declared.Mode.{Mode}
+use Rattle.record.specs.declared.Mode.the-variants.{Ordinary, Strict}
 use Rattle.record.specs.declared.Target.{Target}
 use Rattle.record.specs.declared.Target.the-variants.{Sm10, Sm13, Sm20, Sm30}
 use Rattle.rules.specs.Targets.{allows}
+use Rattle.rules.specs.Strict.{lanesAgainstItself, passes}
 use Rattle.rules.specs.Numbers.{exactOf, holdsZ}
 use Rattle.rules.specs.Execution.{selectedOf, formOf, arithmeticOf, lanesOf, laneHolds, valueOf, comparisonOf}
 use Rattle.rules.specs.Executing.{combinedOf, testOf, writes, after, sizesFit, predsFit, guardHolds, run}
@@ -51,19 +54,27 @@ use Rattle.fillplace.specs.Tries.{isFilled, beginsFilled, operandPlaceOf}
 use Rattle.places.specs.Mirror.{modifierPlaceOf, operandIndexOf, legalPlaceOf, guardPlaceOf, partsPlaceOf, placeOf}
 use Rattle.read.specs.Mirror.{candidateOf, verdictOf, refusedBy, readOf}
 use Rattle.read.specs.Answering.{answers}
-use Rattle.figures.specs.Lines.{exampleVset4, exampleSetp, exampleSelp, highestWord, halfSelp, halfSet, doubleSet, bitsSelp, flushedSlct}
+use Rattle.figures.specs.Lines.{exampleVset4, exampleSetp, exampleSelp, highestWord, halfSelp, halfSet, doubleSet, bitsSelp, flushedSlct, sameVset4, apartVset4, apartVset2, sameVadd4, sameVset}
 
 pub record Answered : Type 0 where
   pub target : Target
+  pub mode : Mode
   pub line : List ℕ
   pub answer : Answer
 
--- at sm_30, T-07: or at another target
-abbrev gets : List ℕ → Answer → Answered
-gets l a = record { target = Sm30; line = l; answer = a }
-
+-- T-07: at a target, in ordinary reading; most at sm_30
 abbrev at : Target → List ℕ → Answer → Answered
-at t l a = record { target = t; line = l; answer = a }
+at t l a = record { target = t; mode = Ordinary; line = l; answer = a }
+
+abbrev gets : List ℕ → Answer → Answered
+gets l a = at Sm30 l a
+
+-- T-09: at a target, in strict reading
+abbrev strictlyAt : Target → List ℕ → Answer → Answered
+strictlyAt t l a = record { target = t; mode = Strict; line = l; answer = a }
+
+abbrev strictly : List ℕ → Answer → Answered
+strictly l a = strictlyAt Sm30 l a
 
 -- 37 bytes and n blanks
 abbrev padded : ℕ → List ℕ
@@ -199,12 +210,38 @@ answered =
     ∷ at Sm10 (bytes "selp.f64 %r1, %rd2, %rd3, %p1;") (refused-at 5 9)
     ∷ at Sm10 (bytes "setp.lt.f64 %p1|%p1, %rd32, %rd3;") (refused-at 6 21)
     ∷ at Sm10 (bytes "setp.lt.f64 %p1|%p1, %rd2, %rd3;") (refused-at 7 16)
+    -- T-09: the same part of the same register, a and b being one register; ordinary reading reads it
+    ∷ strictly (bytes "vset4.u32.u32.lt %r1, %r2, %r2, %r4;") (refused 15)
+    ∷ gets (bytes "vset4.u32.u32.lt %r1, %r2, %r2, %r4;") (read sameVset4)
+    -- a digit of b's selector picks from a: only in masked lanes. Types don't matter
+    ∷ strictly (bytes "vset4.u32.s32.lt %r1.b0, %r2.b3210, %r3.b7650, %r4;") (refused 15)
+    ∷ strictly (bytes "vset4.u32.s32.lt %r1.b10, %r2.b3210, %r3.b7650, %r4;") (refused 15)
+    ∷ strictly (bytes "vset4.u32.s32.lt %r1.b32, %r2.b3210, %r3.b7650, %r4;") (read apartVset4)
+    -- with `add` too; one register under two names of parts, 1 and 3, and under the names of two parts, 1 and 2
+    ∷ strictly (bytes "vset2.u32.u32.eq.add %r1.h1, %r2.h01, %r3.h02, %r4;") (refused 15)
+    ∷ strictly (bytes "vset2.u32.u32.eq %r1.h0, %r2.h01, %r2.h03, %r4;") (refused 15)
+    ∷ strictly (bytes "vset2.u32.u32.eq %r1.h0, %r2.h01, %r2.h02, %r4;") (read apartVset2)
+    -- both selectors pick from b; the same part of two registers is read; the last lane counts
+    ∷ strictly (bytes "vset4.u32.u32.ne %r1.b3, %r2.b4000, %r3.b4111, %r4;") (refused 15)
+    ∷ strictly (bytes "vset4.u32.u32.lt %r10, %r1, %r2, %r0;") (read exampleVset4)
+    ∷ strictly (bytes "@!%p1 vset4.u32.u32.lt.add %r2, %r2.b3333, %r3.b3777, %r2;") (refused 15)
+    -- T-01's arithmetic and scalar vset are not touched
+    ∷ strictly (bytes "vadd4.u32.u32.u32 %r1, %r2, %r2, %r4;") (read sameVadd4)
+    ∷ strictly (bytes "vset.u32.u32.lt %r1, %r2.b0, %r2.b0;") (read sameVset)
+    -- 1 to 7 come first, with their places, and 12
+    ∷ strictly (bytes "vset4.u32.u32.lt %r1, %r2, %r2, %r4") (refused-at 2 35)
+    ∷ strictly (bytes "vset4.u32.u32.lt.max %r1, %r2, %r2, %r4;") (refused-at 4 17)
+    ∷ strictly (bytes "vset4.u32.u32.lt %r1.b01, %r2, %r2, %r4;") (refused-at 5 17)
+    ∷ strictly (bytes "vset4.u32.u32.lt %r1, %r2, %r2, %r64;") (refused-at 6 32)
+    ∷ strictly (bytes "vset4.u32.u32.lt %r1, %r64, %r64, %r4;") (refused-at 6 22)
+    ∷ strictlyAt Sm20 (bytes "vset4.u32.u32.lt %r1, %r2, %r2, %r4;") (refused 12)
     ∷ []
 
 -- ==== whole listings
 
 pub record Listing : Type 0 where
   pub target : Target
+  pub mode : Mode
   pub lines : List ℕ
   pub output : List ℕ
 
@@ -225,7 +262,14 @@ cardLines =
     ∷ [])
 
 abbrev prints : Target → List ℕ → List String → Listing
-prints t ls out = record { target = t; lines = ls; output = text out }
+prints t ls out = record { target = t; mode = Ordinary; lines = ls; output = text out }
+
+-- T-09: an antenna compared with itself and counted as agreement, then two compared with each other
+abbrev itselfLines : List ℕ
+itselfLines = text ("vset4.u32.u32.eq.add %r10, %r1, %r1, %r0;" ∷ "vset4.u32.u32.eq.add %r11, %r1, %r2, %r0;" ∷ [])
+
+abbrev printsStrictly : List ℕ → List String → Listing
+printsStrictly ls out = record { target = Sm30; mode = Strict; lines = ls; output = text out }
 
 unfoldable pub listings : List Listing
 listings =
@@ -276,6 +320,13 @@ listings =
     ∷ "%r63 03030303"
     ∷ "%rd1 0000000000000003"
     ∷ [])
+    ∷ prints Sm30 itselfLines
+    ("1 done vset4.u32.u32.eq.add %r10, %r1, %r1, %r0;"
+    ∷ "2 done vset4.u32.u32.eq.add %r11, %r1, %r2, %r0;"
+    ∷ "%r10 00000004"
+    ∷ "%r11 00000000"
+    ∷ [])
+    ∷ printsStrictly itselfLines ("1 refused 15" ∷ "2 done vset4.u32.u32.eq.add %r11, %r1, %r2, %r0;" ∷ "%r11 00000000" ∷ [])
     -- without a line nothing is printed; a line feed alone is an empty line; a last line without one counts
     ∷ prints Sm30 [] []
     ∷ prints Sm30 (lineFeed ∷ []) ("1 refused 2 0" ∷ [])
@@ -286,23 +337,23 @@ listings =
 
 -- the reader's stages give each line its answer, and the listings are printed by them; together, so that the stages are named once
 answered-computed :
-    (map (λ (x : Answered). readOf (x .target) (x .line)) answered ≡ map (λ (x : Answered). x .answer) answered)
-    × (map (λ (x : Listing). computed (x .target) (x .lines)) listings ≡ map (λ (x : Listing). x .output) listings)
+    (map (λ (x : Answered). readOf (x .target) (x .mode) (x .line)) answered ≡ map (λ (x : Answered). x .answer) answered)
+    × (map (λ (x : Listing). computed (x .target) (x .mode) (x .lines)) listings ≡ map (λ (x : Listing). x .output) listings)
     × (map (λ (x : Listing). leb (length (x .lines)) listingLimit) listings ≡ map (λ (x : Listing). true) listings)
-unfolding listings linesWith printedLine turnsText turnsFiles registersText changesText changeText startFiles hex decimal decimalIn standard run isLegal sizesFit predsFit guardHolds after writes arithmeticOf formOf selectedOf exactOf lanesOf laneHolds holdsZ combinedOf testOf comparisonOf valueOf lt eq isNan ofBits ofFields odd answered readOf allows refusedBy verdictOf placeOf partsPlaceOf modifierPlaceOf guardPlaceOf legalPlaceOf operandIndexOf rowPlaceOf row.guessOf beginsRow row.tried row.completed row.entry isRow operandPlaceOf fill.guessOf beginsFilled fill.tried fill.completed fill.entry isFilled turnsAt searched shapePlaceOf wrongFrom step register digits follow ends named headAt guardEnd nameFrom operandsAt operandFrom nextAt nextOf nextBy barAt overAt candidateOf shapeOf guardedBy guardOf guardBy fromHead headOf turns nameTurn nameBy pushedName fromGap fromOperands operandsScanned operandTurn operandBy operandScanned invertedBy firstOf afterBy partOf secondOf secondBy dividedBy dividerOf dividerBy pushedTree fromEnd stoppedAt registerOf registerBy prefixBy registerFrom numberFound numberBy cappedSum codeOf rowOf rowBy foundOf readHead nameAt wholeOf sidesAt sidesBy headCompared comparedBy typedOf typedBy endingAt endingBy arithmeticRow arithmeticTyped arithmeticBy vsetRow vsetBy vsetLanesRow vsetLanesBy laneArithmeticRow laneArithmeticTyped laneArithmeticBy testedOf testedBy testAt setRow setTested setAt setBy setpRow setpTested setpAt setpBy selpRow selpBy slctRow slctAt slctBy slctTypeOf opcodeOf videoOf setTypeOf selectorOf typeOf sixOf cmpOf boolOpOf op2Of maskOf falling digitsNamed digitsIn filledOf treeAt scalarFrom lanesFrom comparisonFrom choiceFrom
+unfolding listings linesWith printedLine turnsText turnsFiles registersText changesText changeText startFiles hex decimal decimalIn standard run isLegal sizesFit predsFit guardHolds after writes arithmeticOf formOf selectedOf exactOf lanesOf laneHolds holdsZ combinedOf testOf comparisonOf valueOf lt eq isNan ofBits ofFields odd answered readOf allows passes lanesAgainstItself refusedBy verdictOf placeOf partsPlaceOf modifierPlaceOf guardPlaceOf legalPlaceOf operandIndexOf rowPlaceOf row.guessOf beginsRow row.tried row.completed row.entry isRow operandPlaceOf fill.guessOf beginsFilled fill.tried fill.completed fill.entry isFilled turnsAt searched shapePlaceOf wrongFrom step register digits follow ends named headAt guardEnd nameFrom operandsAt operandFrom nextAt nextOf nextBy barAt overAt candidateOf shapeOf guardedBy guardOf guardBy fromHead headOf turns nameTurn nameBy pushedName fromGap fromOperands operandsScanned operandTurn operandBy operandScanned invertedBy firstOf afterBy partOf secondOf secondBy dividedBy dividerOf dividerBy pushedTree fromEnd stoppedAt registerOf registerBy prefixBy registerFrom numberFound numberBy cappedSum codeOf rowOf rowBy foundOf readHead nameAt wholeOf sidesAt sidesBy headCompared comparedBy typedOf typedBy endingAt endingBy arithmeticRow arithmeticTyped arithmeticBy vsetRow vsetBy vsetLanesRow vsetLanesBy laneArithmeticRow laneArithmeticTyped laneArithmeticBy testedOf testedBy testAt setRow setTested setAt setBy setpRow setpTested setpAt setpBy selpRow selpBy slctRow slctAt slctBy slctTypeOf opcodeOf videoOf setTypeOf selectorOf typeOf sixOf cmpOf boolOpOf op2Of maskOf falling digitsNamed digitsIn filledOf treeAt scalarFrom lanesFrom comparisonFrom choiceFrom
 answered-computed = (refl, refl, refl)
 
 -- the grammar gives each line of a list the answer beside it
 abbrev pub EachGets : List Answered → Type 0
 EachGets [] = Unit {0}
-EachGets (x ∷ xs) = Answers (x .target) (x .line) (x .answer) × EachGets xs
+EachGets (x ∷ xs) = Answers (x .target) (x .mode) (x .line) (x .answer) × EachGets xs
 
-each : (xs : List Answered) → map (λ (x : Answered). readOf (x .target) (x .line)) xs ≡ map (λ (x : Answered). x .answer) xs → EachGets xs
+each : (xs : List Answered) → map (λ (x : Answered). readOf (x .target) (x .mode) (x .line)) xs ≡ map (λ (x : Answered). x .answer) xs → EachGets xs
 each [] e = tt
 each (x ∷ xs) e =
-    let this : readOf (x .target) (x .line) ≡ x .answer = cc in
-    let rest : map (λ (x : Answered). readOf (x .target) (x .line)) xs ≡ map (λ (x : Answered). x .answer) xs = cc in
-    (subst (Answers (x .target) (x .line)) this (answers (x .target) (x .line)), each xs rest)
+    let this : readOf (x .target) (x .mode) (x .line) ≡ x .answer = cc in
+    let rest : map (λ (x : Answered). readOf (x .target) (x .mode) (x .line)) xs ≡ map (λ (x : Answered). x .answer) xs = cc in
+    (subst (Answers (x .target) (x .mode) (x .line)) this (answers (x .target) (x .mode) (x .line)), each xs rest)
 
 pub answered-hold : EachGets answered
 answered-hold = each answered (answered-computed .0)
@@ -310,17 +361,17 @@ answered-hold = each answered (answered-computed .0)
 -- what is printed of each listing of a list is the output beside it
 abbrev pub EachPrints : List Listing → Type 0
 EachPrints [] = Unit {0}
-EachPrints (x ∷ xs) = Output (x .target) (x .lines) (x .output) × EachPrints xs
+EachPrints (x ∷ xs) = Output (x .target) (x .mode) (x .lines) (x .output) × EachPrints xs
 
-each-printed : (xs : List Listing) → map (λ (x : Listing). computed (x .target) (x .lines)) xs ≡ map (λ (x : Listing). x .output) xs
+each-printed : (xs : List Listing) → map (λ (x : Listing). computed (x .target) (x .mode) (x .lines)) xs ≡ map (λ (x : Listing). x .output) xs
     → map (λ (x : Listing). leb (length (x .lines)) listingLimit) xs ≡ map (λ (x : Listing). true) xs → EachPrints xs
 each-printed [] e h = tt
 each-printed (x ∷ xs) e h =
-    let this : computed (x .target) (x .lines) ≡ x .output = cc in
-    let rest : map (λ (x : Listing). computed (x .target) (x .lines)) xs ≡ map (λ (x : Listing). x .output) xs = cc in
+    let this : computed (x .target) (x .mode) (x .lines) ≡ x .output = cc in
+    let rest : map (λ (x : Listing). computed (x .target) (x .mode) (x .lines)) xs ≡ map (λ (x : Listing). x .output) xs = cc in
     let short : leb (length (x .lines)) listingLimit ≡ true = cc in
     let shorts : map (λ (x : Listing). leb (length (x .lines)) listingLimit) xs ≡ map (λ (x : Listing). true) xs = cc in (
-      subst (Output (x .target) (x .lines)) this (computed-output (x .target) (x .lines) (leb-true (length (x .lines)) listingLimit short)),
+      subst (Output (x .target) (x .mode) (x .lines)) this (computed-output (x .target) (x .mode) (x .lines) (leb-true (length (x .lines)) listingLimit short)),
       each-printed xs rest shorts,
     )
 

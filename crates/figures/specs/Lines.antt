@@ -16,7 +16,7 @@ use Rattle.record.specs.declared.SetType
 use Rattle.record.specs.declared.SetType.{SetType}
 use Rattle.record.specs.declared.SlctType
 use Rattle.record.specs.declared.SlctType.{SlctType}
-use Rattle.record.specs.declared.Cmp6.the-variants.{Lt, Gt, Ge}
+use Rattle.record.specs.declared.Cmp6.the-variants.{Eq, Lt, Gt, Ge}
 use Rattle.record.specs.declared.CmpF.the-variants.{Ltu}
 use Rattle.record.specs.declared.CmpU.the-variants.{Lo}
 use Rattle.record.specs.declared.CmpOp
@@ -118,6 +118,82 @@ bitsSelp = always (Selp (record { dtype = DataType.B64; d = rd 1; a = rd 2; b = 
 
 abbrev pub flushedSlct : Record
 flushedSlct = always (Slct (SlctType.F32 true) (record { dtype = DataType.F32; d = w 1; a = w 2; b = w 3 }) (r 4))
+
+-- T-09: a line against itself, and three that strict reading reads
+abbrev pub sameVset4 : Record
+sameVset4 =
+    always
+    (VsetLanes Lt
+    (record {
+      width = Byte;
+      atype = U32;
+      btype = U32;
+      add = false;
+      d = r 1;
+      mask = fullMask Byte;
+      a = r 2;
+      asel = defaultA Byte;
+      b = r 2;
+      bsel = defaultB Byte;
+      c = r 4;
+    }))
+
+abbrev pub apartVset4 : Record
+apartVset4 =
+    always
+    (VsetLanes Lt
+    (record {
+      width = Byte;
+      atype = U32;
+      btype = S32;
+      add = false;
+      d = r 1;
+      mask = record { lane0 = false; lane1 = false; lane2 = true; lane3 = true };
+      a = r 2;
+      asel = defaultA Byte;
+      b = r 3;
+      bsel = record { lane0 = 0; lane1 = 5; lane2 = 6; lane3 = 7 };
+      c = r 4;
+    }))
+
+abbrev pub apartVset2 : Record
+apartVset2 =
+    always
+    (VsetLanes Eq
+    (record {
+      width = Half;
+      atype = U32;
+      btype = U32;
+      add = false;
+      d = r 1;
+      mask = record { lane0 = true; lane1 = false; lane2 = false; lane3 = false };
+      a = r 2;
+      asel = record { lane0 = 1; lane1 = 0; lane2 = 0; lane3 = 0 };
+      b = r 2;
+      bsel = record { lane0 = 2; lane1 = 0; lane2 = 0; lane3 = 0 };
+      c = r 4;
+    }))
+
+abbrev pub sameVadd4 : Record
+sameVadd4 =
+    always
+    (ArithmeticLanes (Scalar Vadd) U32 false
+    (record {
+      width = Byte;
+      atype = U32;
+      btype = U32;
+      add = false;
+      d = r 1;
+      mask = fullMask Byte;
+      a = r 2;
+      asel = defaultA Byte;
+      b = r 2;
+      bsel = defaultB Byte;
+      c = r 4;
+    }))
+
+abbrev pub sameVset : Record
+sameVset = always (Vset Lt (record { atype = U32; btype = U32; form = Plain (r 1); a = Part (r 2) B0; b = Part (r 2) B0 }))
 
 -- ---- the lines
 
@@ -236,6 +312,11 @@ lines =
     ∷ is halfSet (bytes "set.gt.u32.s16 %r1, %rs5, %rs0;")
     ∷ is doubleSet (bytes "set.lt.u32.f64 %r1, %rd2, %rd3;")
     ∷ is bitsSelp (bytes "selp.b64 %rd1, %rd2, %rd3, %p1;")
+    ∷ is sameVset4 (bytes "vset4.u32.u32.lt %r1, %r2, %r2, %r4;")
+    ∷ is apartVset4 (bytes "vset4.u32.s32.lt %r1.b32, %r2, %r3.b7650, %r4;")
+    ∷ is apartVset2 (bytes "vset2.u32.u32.eq %r1.h0, %r2.h01, %r2.h02, %r4;")
+    ∷ is sameVadd4 (bytes "vadd4.u32.u32.u32 %r1, %r2, %r2, %r4;")
+    ∷ is sameVset (bytes "vset.u32.u32.lt %r1, %r2.b0, %r2.b0;")
     ∷ []
 
 -- each record's standard line is the text that stands beside it
