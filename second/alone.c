@@ -1,15 +1,15 @@
 /*
  * The listing program of the PTX line bench, worked out from document 01 and
- * requests T-01, T-02, T-05, T-06 and T-07.
+ * requests T-01, T-02, T-05, T-06, T-07 and T-09.
  *
  * It reads a listing from standard input, reads each line into a record,
  * executes the record, and writes one answer per line and, at the end, the
  * registers that differ from their start value.
  *
- *   alone [NAME]      the listing program, at the target of that name, sm_30 if none is given
- *   alone --probe     executes lines one by one, on registers of one's choice
- *   alone --samples   answers the data lines of SAMPLES.md
- * `--target NAME` may stand for NAME, and in front of `--probe`.
+ *   alone [NAME [strict]]   the listing program, at the target of that name, sm_30 if none is given, in ordinary or strict reading
+ *   alone --probe           executes lines one by one, on registers of one's choice
+ *   alone --samples         answers the data lines of SAMPLES.md
+ * `--target NAME` and `--strict`, in any order, may stand for the words, and beside `--probe`.
  *
  * Build:  cc -std=c11 -O2 -Wall -Wextra -Werror alone.c -o alone
  *   -DRAW_IO  uses read and write of <unistd.h> in place of <stdio.h>
@@ -107,11 +107,15 @@ typedef enum {
     SHORT_BUFFER = 9,
     BAD_LENGTHS = 10,
     BAD_PREDICATE = 11,
-    TOO_OLD = 12
+    TOO_OLD = 12,
+    AGAINST_ITSELF = 15
 } Refusal;
 
 /* The targets, the oldest first. */
 typedef enum { SM_10, SM_13, SM_20, SM_30, TARGETS } Target;
+
+/* The ways of reading.  Nothing but reading knows of them. */
+typedef enum { ORDINARY, STRICT } Mode;
 
 /* ------------------------------------------------------------------------
  * Words: the names that may stand in a head.  Words of one class stand
@@ -525,6 +529,26 @@ static Target needed_target(const Record *rec)
     }
 }
 
+/* Whether two part numbers of the record's lanes name one part of one register.  They count through a first, then b. */
+static bool same_part(const Record *rec, unsigned x, unsigned y)
+{
+    unsigned lanes = lanes_of(rec->op);
+    unsigned x_register = x < lanes ? rec->a : rec->b;
+    unsigned y_register = y < lanes ? rec->a : rec->b;
+    return x_register == y_register && x % lanes == y % lanes;
+}
+
+/* Whether a masked lane of vset2 or vset4 compares a part with itself. */
+static bool is_against_itself(const Record *rec)
+{
+    if (rec->op != W_VSET2 && rec->op != W_VSET4)
+        return false;
+    for (unsigned i = 0; i < lanes_of(rec->op); i++)
+        if ((rec->mask >> i & 1) != 0 && same_part(rec, rec->asel[i], rec->bsel[i]))
+            return true;
+    return false;
+}
+
 /* What may stand last in a video head: by lanes there is `add` alone. */
 static bool is_second(Word op, Word w)
 {
@@ -794,7 +818,7 @@ static bool numbers_fit(const Line *line)
 }
 
 /* The number of the refusal, ACCEPTED if there is none. */
-static Refusal judge_line(const Byte *p, size_t length, Target target, Line *line, Record *rec)
+static Refusal judge_line(const Byte *p, size_t length, Target target, Mode mode, Line *line, Record *rec)
 {
     if (length > LINE_MOST)
         return TOO_LONG;
@@ -815,6 +839,8 @@ static Refusal judge_line(const Byte *p, size_t length, Target target, Line *lin
         return SAME_PLACES;
     if (target < needed_target(rec))
         return TOO_OLD;
+    if (mode == STRICT && is_against_itself(rec))
+        return AGAINST_ITSELF;
     rec->guarded = line->guarded;
     if (line->guarded) {
         rec->guard = line->guard.number;
@@ -1219,13 +1245,13 @@ static bool has_place(Refusal refusal)
 }
 
 /*
- * Reads the line of `length` bytes at `p`, for a target.  When it is accepted,
- * `line` holds its texts, without default masks and selectors, and `rec` the
+ * Reads the line of `length` bytes at `p`, for a target, in a mode.  When it is
+ * accepted, `line` holds its texts, without default masks and selectors, and `rec` the
  * record; when it is refused with 2 to 7, `line` holds the place.
  */
-static Refusal read_line(const Byte *p, size_t length, Target target, Line *line, Record *rec)
+static Refusal read_line(const Byte *p, size_t length, Target target, Mode mode, Line *line, Record *rec)
 {
-    Refusal refusal = judge_line(p, length, target, line, rec);
+    Refusal refusal = judge_line(p, length, target, mode, line, rec);
     line->place = place_of(refusal, p, length, line, rec);
     return refusal;
 }
@@ -1636,14 +1662,14 @@ static void put_changed_registers(const Machine *m)
  * The listing
  * ------------------------------------------------------------------------ */
 
-static void run_listing(const Byte *p, const Byte *end, Target target, Machine *m)
+static void run_listing(const Byte *p, const Byte *end, Target target, Mode mode, Machine *m)
 {
     Line line;
     Record rec;
 
     for (unsigned number = 1; p < end; number++) {
         const Byte *feed = memchr(p, '\n', (size_t)(end - p) + 1);
-        Refusal refusal = read_line(p, (size_t)(feed - p), target, &line, &rec);
+        Refusal refusal = read_line(p, (size_t)(feed - p), target, mode, &line, &rec);
         begin_line();
         put_decimal(number);
         if (refusal != ACCEPTED) {
@@ -1658,7 +1684,7 @@ static void run_listing(const Byte *p, const Byte *end, Target target, Machine *
     }
 }
 
-static int listing_program(Target target)
+static int listing_program(Target target, Mode mode)
 {
     static Byte input[INPUT_MOST + 1];
     static Machine machine;
@@ -1673,7 +1699,7 @@ static int listing_program(Target target)
 
     fill_dictionary();
     start_machine(&machine);
-    run_listing(input, input + length, target, &machine);
+    run_listing(input, input + length, target, mode, &machine);
     put_changed_registers(&machine);
     flush_output();
     return 0;
@@ -1683,7 +1709,7 @@ static int listing_program(Target target)
 
 int main(void)
 {
-    return listing_program(SM_30);
+    return listing_program(SM_30, ORDINARY);
 }
 
 #else
@@ -1770,11 +1796,11 @@ static void put_destinations(const Machine *m, const Record *rec)
     }
 }
 
-static void put_probe_answer(const Byte *p, size_t length, Target target, Machine *m)
+static void put_probe_answer(const Byte *p, size_t length, Target target, Mode mode, Machine *m)
 {
     Line line;
     Record rec;
-    Refusal refusal = read_line(p, length, target, &line, &rec);
+    Refusal refusal = read_line(p, length, target, mode, &line, &rec);
     if (refusal == ACCEPTED && has_byte_over_1(m->p))
         refusal = BAD_PREDICATE;
     if (refusal != ACCEPTED) {
@@ -1802,7 +1828,7 @@ static bool next_line(Byte line[LINE_MOST + 2], size_t *length)
     return byte != EOF || *length > 0;
 }
 
-static int probe(Target target)
+static int probe(Target target, Mode mode)
 {
     static const Machine zero;
     Machine machine = zero;
@@ -1814,7 +1840,7 @@ static int probe(Target target)
         if (length == 1 && line[0] == '!')
             machine = zero;
         else if (!read_setting(line, &machine))
-            put_probe_answer(line, length, target, &machine);
+            put_probe_answer(line, length, target, mode, &machine);
     }
     return 0;
 }
@@ -2588,24 +2614,55 @@ static int samples(void)
     return 0;
 }
 
+/* What the arguments ask for. */
+typedef struct {
+    const char *name;           /* of the target, or NULL */
+    Mode mode;
+    const char *work;           /* `--probe` or `--samples`, or NULL: the listing program */
+} Asked;
+
+/* NAME, or NAME and `strict`. */
+static bool read_words(int count, char **word, Asked *asked)
+{
+    asked->name = word[0];
+    asked->mode = count == 2 ? STRICT : ORDINARY;
+    return count == 1 || (count == 2 && strcmp(word[1], "strict") == 0);
+}
+
+/* Options, in any order, each at most once. */
+static bool read_options(int count, char **option, Asked *asked)
+{
+    for (int i = 0; i < count; i++) {
+        if (strcmp(option[i], "--target") == 0 && i + 1 < count && asked->name == NULL)
+            asked->name = option[++i];
+        else if (strcmp(option[i], "--strict") == 0 && asked->mode == ORDINARY)
+            asked->mode = STRICT;
+        else if ((strcmp(option[i], "--probe") == 0 || strcmp(option[i], "--samples") == 0) && asked->work == NULL)
+            asked->work = option[i];
+        else
+            return false;
+    }
+    return true;
+}
+
 int main(int argc, char **argv)
 {
     Target target = SM_30;
-    bool option = argc > 2 && strcmp(argv[1], "--target") == 0;
-    bool named = option || (argc == 2 && argv[1][0] != '-');
-    char **rest = argv + 1 + option + named;        /* what stands behind the name */
-    if (named && !read_target(rest[-1], &target)) {
-        fprintf(stderr, "alone: no target has the name %s\n", rest[-1]);
+    Asked asked = { NULL, ORDINARY, NULL };
+    bool words = argc > 1 && argv[1][0] != '-';
+    bool known = words ? read_words(argc - 1, argv + 1, &asked) : read_options(argc - 1, argv + 1, &asked);
+    bool is_samples = asked.work != NULL && strcmp(asked.work, "--samples") == 0;
+    if (!known || (is_samples && argc > 2)) {
+        fputs("usage: alone [NAME [strict] | [--target NAME] [--strict] [--probe] | --samples]\n", stderr);
         return 2;
     }
-    if (rest[0] == NULL)
-        return listing_program(target);
-    if (rest[1] == NULL && strcmp(rest[0], "--probe") == 0)
-        return probe(target);
-    if (rest[1] == NULL && strcmp(rest[0], "--samples") == 0 && !named)
+    if (asked.name != NULL && !read_target(asked.name, &target)) {
+        fprintf(stderr, "alone: no target has the name %s\n", asked.name);
+        return 2;
+    }
+    if (is_samples)
         return samples();
-    fputs("usage: alone [NAME | --target NAME | [--target NAME] --probe | --samples]\n", stderr);
-    return 2;
+    return asked.work != NULL ? probe(target, asked.mode) : listing_program(target, asked.mode);
 }
 
 #endif

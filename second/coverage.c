@@ -2,6 +2,7 @@
  * coverage TALLY LISTING..: adds to the file TALLY how often each kind of line and of operand value stands in the listings.
  * coverage TALLY: prints for each group of kinds how many occurred, and which never did; status 1 if one never did.
  * --target NAME in front of either: the kinds that matter at this target (request T-07), with the listings worked at it.
+ * --strict in front of that, --target NAME too: the kinds that matter in strict reading there (request T-09), with the listings read so.
  *
  * Kinds are counted by the reader and the registers of alone.c, which is taken in as it stands: where it
  * misreads a line the comparison of answers differs, so the count needs no reader of its own.
@@ -1449,7 +1450,7 @@ static void count_byte_too_many(const Byte *p, size_t length)
         memcpy(copy, p, i);
         memcpy(copy + i, p + i + 1, length - i - 1);
         copy[length - 1] = '\n';
-        if (judge_line(copy, length - 1, SM_30, &line, &rec) == ACCEPTED) {
+        if (judge_line(copy, length - 1, SM_30, ORDINARY, &line, &rec) == ACCEPTED) {
             hit("one byte too many: %02X", p[i]);
             return;
         }
@@ -1865,7 +1866,7 @@ static void count_too_old(const Machine *m, const Byte *p, size_t length)
 {
     Line line;
     Record rec;
-    if (read_line(p, length, SM_30, &line, &rec) != ACCEPTED)
+    if (read_line(p, length, SM_30, ORDINARY, &line, &rec) != ACCEPTED)
         stop("12 where another refusal stands", "alone.c");
     hit("head: %.*s", (int)line.head.length, (const char *)line.head.at);
     hit("12: %s%s, %s", spelling[rec.op], new_name(rec.op),
@@ -1936,11 +1937,11 @@ static void count_line_at(const Machine *m, const Byte *p, size_t length, const 
         count_before_12(p, target, refusal);
 }
 
-/* At a target, TARGETS for the kinds of sm_30 of the older requests. */
-static void count_listing(const char *name, Target at)
+static Byte input[INPUT_MOST + 1];
+
+/* The listing of that name into `input`, with a line feed behind it; its size. */
+static size_t read_listing(const char *name)
 {
-    static Byte input[INPUT_MOST + 1];
-    Machine m;
     FILE *file = fopen(name, "rb");
     if (file == NULL)
         stop("cannot be read", name);
@@ -1948,8 +1949,15 @@ static void count_listing(const char *name, Target at)
     fclose(file);
     if (size > INPUT_MOST)
         stop("too long", name);
-    const Byte *p = input, *end = input + size;
     input[size] = '\n';
+    return size;
+}
+
+/* At a target, TARGETS for the kinds of sm_30 of the older requests. */
+static void count_listing(const char *name, Target at)
+{
+    Machine m;
+    const Byte *p = input, *end = input + read_listing(name);
     Target target = at == TARGETS ? SM_30 : at;
     start_machine(&m);
     while (p < end) {
@@ -1958,7 +1966,7 @@ static void count_listing(const char *name, Target at)
         memset(&rec, 0, sizeof rec);
         const Byte *feed = memchr(p, '\n', (size_t)(end - p) + 1);
         size_t length = (size_t)(feed - p);
-        Refusal refusal = read_line(p, length, target, &line, &rec);
+        Refusal refusal = read_line(p, length, target, ORDINARY, &line, &rec);
         if (at != TARGETS) {
             count_line_at(&m, p, length, &line, &rec, refusal, target);
             if (refusal == ACCEPTED)
@@ -1979,6 +1987,348 @@ static void count_listing(const char *name, Target at)
     }
     if (at == TARGETS)
         count_held();
+}
+
+/* ---- strict reading (request T-09): what 15 hangs on is worked out of the text of the line, not of the record ---- */
+
+enum { D, A, B, C, TEXTS = 5, TEXT_SIZE = 40 };
+
+typedef struct {
+    char name[TEXT_SIZE];               /* the first name of the head */
+    char operand[TEXTS][TEXT_SIZE];     /* without blanks around them */
+    size_t at[TEXTS];
+    unsigned operands;
+    unsigned lanes;                     /* 0 if the opcode has none */
+    char digits[3][TEXT_SIZE];          /* of the mask and of both selectors, the defaults if there are none */
+    unsigned how[3];                    /* none written, the default written, others */
+    char word[TEXTS][TEXT_SIZE];        /* the operands without what is behind a dot */
+} LineText;
+
+static const char *const hows[] = { "none", "default", "other" };
+
+/* Whatever is wrong with the line: as much of it as is there. */
+static LineText line_text(const Byte *p)
+{
+    static const char *const defaults[2][3] = { { "10", "10", "32" }, { "3210", "3210", "7654" } };
+    LineText t;
+    memset(&t, 0, sizeof t);
+    Text head = head_text(p);
+    size_t name = 0;
+    while (name < head.length && head.at[name] != '.' && name < TEXT_SIZE - 1)
+        name++;
+    memcpy(t.name, head.at, name);
+    const Byte *q = head.at + head.length;
+    while (*q != '\n' && *q != ';' && t.operands < TEXTS) {
+        while (*q == ' ' || *q == '\t')
+            q++;
+        const Byte *start = q;
+        while (*q != '\n' && *q != ';' && *q != ',')
+            q++;
+        size_t length = (size_t)(q - start);
+        while (length > 0 && (start[length - 1] == ' ' || start[length - 1] == '\t'))
+            length--;
+        memcpy(t.operand[t.operands], start, length < TEXT_SIZE ? length : TEXT_SIZE - 1);
+        t.at[t.operands++] = (size_t)(start - p);
+        if (*q == ',')
+            q++;
+    }
+    char last = name > 0 ? t.name[name - 1] : '\0';
+    t.lanes = last == '2' ? 2 : last == '4' ? 4 : 0;
+    for (unsigned i = 0; i < TEXTS; i++) {
+        size_t dot = strcspn(t.operand[i], ".");
+        memcpy(t.word[i], t.operand[i], dot);
+        if (i > B || t.lanes == 0)
+            continue;
+        const char *usual = defaults[t.lanes == 4][i];
+        bool written = t.operand[i][dot] == '.' && t.operand[i][dot + 1] != '\0';
+        strcpy(t.digits[i], written ? t.operand[i] + dot + 2 : usual);
+        t.how[i] = !written ? 0 : strcmp(t.digits[i], usual) == 0 ? 1 : 2;
+    }
+    return t;
+}
+
+/* The digit that a selector has for a lane: the leftmost is the highest lane's. */
+static char digit_of(const LineText *t, unsigned operand, unsigned lane)
+{
+    size_t count = strlen(t->digits[operand]);
+    return lane < count ? t->digits[operand][count - 1 - lane] : '?';
+}
+
+/* `%r5 2`: the register that a digit picks in and its part there. */
+static void picked(const LineText *t, char digit, char to[TEXT_SIZE + 4])
+{
+    const char *of_a = t->lanes == 2 ? "01" : "0123", *of_b = t->lanes == 2 ? "23" : "4567";
+    const char *in_a = strchr(of_a, digit), *in_b = strchr(of_b, digit);
+    snprintf(to, TEXT_SIZE + 4, "%s %d", t->word[in_a != NULL ? A : B], in_a != NULL ? (int)(in_a - of_a) : in_b != NULL ? (int)(in_b - of_b) : -1);
+}
+
+static bool lane_itself(const LineText *t, unsigned lane)
+{
+    char x[TEXT_SIZE + 4], y[TEXT_SIZE + 4];
+    picked(t, digit_of(t, A, lane), x);
+    picked(t, digit_of(t, B, lane), y);
+    return strcmp(x, y) == 0;
+}
+
+static bool lane_masked(const LineText *t, unsigned lane) { return strchr(t->digits[D], (int)('0' + lane)) != NULL; }
+
+/* Whether some masked lane has one part twice, whatever the opcode. */
+static bool text_itself(const LineText *t)
+{
+    for (unsigned i = 0; i < t->lanes; i++)
+        if (lane_masked(t, i) && lane_itself(t, i))
+            return true;
+    return false;
+}
+
+static bool text_vset(const LineText *t) { return strcmp(t->name, "vset2") == 0 || strcmp(t->name, "vset4") == 0; }
+static bool text_one(const LineText *t) { return strcmp(t->word[A], t->word[B]) == 0; }
+static const char *one_or_two(bool one) { return one ? "one register" : "two registers"; }
+
+/* Opcodes that have no masks and selectors of lanes, but may have one source twice. */
+static const Word whole_ops[] = { W_VSET, W_SET, W_SETP, W_SELP, W_SLCT };
+static const char *const before_places[2][5] = { { "guard", "d", "c", "fifth", "end" }, { "guard", "d", "a", "b", "c" } };
+
+static void declare_strict_digits(unsigned lanes, unsigned one)
+{
+    for (unsigned lane = 0; lane < lanes; lane++)
+        for (unsigned x = 0; x < 2 * lanes; x++)
+            for (unsigned y = 0; y < 2 * lanes; y++) {
+                if (x != y && !(one && x % lanes == y % lanes)) {
+                    kind("read: vset%u lane %u, %u and %u, %s", lanes, lane, x, y, one_or_two(one));
+                    continue;
+                }
+                kind("15 by one lane: vset%u lane %u, %u and %u, %s", lanes, lane, x, y, one_or_two(one));
+                kind("read past: vset%u lane %u, %u and %u, %s", lanes, lane, x, y, one_or_two(one));
+            }
+}
+
+/* `3 0` as digits, falling; `none` of none. */
+static void lanes_text(unsigned set, char to[8])
+{
+    char *end = to;
+    for (unsigned i = 4; i-- > 0;)
+        if ((set >> i & 1) != 0)
+            *end++ = (char)('0' + i);
+    *end = '\0';
+    if (set == 0)
+        strcpy(to, "none");
+}
+
+static void declare_strict_lanes(unsigned lanes)
+{
+    for (unsigned one = 0; one < 2; one++) {
+        declare_strict_digits(lanes, one);
+        for (unsigned mask = 1; mask < 1u << lanes; mask++)
+            for (unsigned set = 0; set < 1u << lanes; set++) {
+                char masked[8], itself[8];
+                lanes_text(mask, masked);
+                lanes_text(set, itself);
+                kind("lanes: vset%u mask %s, against themselves %s, %s", lanes, masked, itself, one_or_two(one));
+            }
+    }
+    for (unsigned said = 0; said < 2; said++) {
+        const char *answer = said ? "15" : "read";
+        for (int a = W_U32; a <= W_S32; a++)
+            for (int b = W_U32; b <= W_S32; b++)
+                for (int cmp = W_EQ; cmp <= W_GE; cmp++)
+                    for (unsigned add = 0; add < 2; add++)
+                        kind("head: vset%u.%s.%s.%s%s %s", lanes, spelling[a], spelling[b], spelling[cmp], add ? ".add" : "", answer);
+        for (unsigned way = 0; way < 27; way++)
+            kind("written: vset%u %s, %s, %s: %s", lanes, hows[way % 3], hows[way / 3 % 3], hows[way / 9], answer);
+        kind("guard: vset%u none: %s", lanes, answer);
+        kind("guard: vset%u true: %s", lanes, answer);
+        kind("guard: vset%u false: %s", lanes, answer);
+        kind("also: vset%u d is a: %s", lanes, answer);
+        kind("also: vset%u d is b: %s", lanes, answer);
+        kind("also: vset%u c is a: %s", lanes, answer);
+        kind("also: vset%u c is b: %s", lanes, answer);
+    }
+    for (unsigned n = 0; n < R_COUNT; n++)
+        kind("register: vset%u %%r%u with itself", lanes, n);
+    for (unsigned bit = 0; bit < 6; bit++)
+        kind("nearly: vset%u numbers differ in bit %u", lanes, bit);
+    kind("nearly: vset%u a's number begins b's", lanes);
+    kind("nearly: vset%u b's number begins a's", lanes);
+    kind("effect: vset%u d would have changed", lanes);
+    kind("effect: vset%u guard false", lanes);
+    kind("length: vset%u 15 in 160 bytes", lanes);
+    kind("blanks: vset%u 15 with a tab", lanes);
+}
+
+static void declare_strict(Target target)
+{
+    kind("answer: done");
+    kind("answer: skipped");
+    for (int n = 1; n <= 7; n++)
+        kind("answer: refused %d", n);
+    kind("answer: refused %d", target < SM_30 ? 12 : 15);
+    for (unsigned lanes = 2; lanes <= 4; lanes += 2) {
+        for (int n = 1; n <= 4; n++)
+            if (n != 3)
+                kind("before 15: %d vset%u", n, lanes);
+        for (int n = 5; n <= 6; n++)
+            for (unsigned i = 0; i < 5; i++)
+                kind("before 15: %d vset%u %s", n, lanes, before_places[n - 5][i]);
+        kind("length: vset%u 1 in 161 bytes", lanes);
+        if (target == SM_30)
+            declare_strict_lanes(lanes);
+        else
+            for (unsigned way = 0; way < 8; way++)
+                kind("12: vset%u %s, %s, %s", lanes, way & 1 ? "against itself" : "not so", one_or_two(way & 2), way & 4 ? "guard" : "no guard");
+    }
+    kind("before 15: 3 %s", "vset and others");
+    for (int op = W_VSET2; op <= W_VMAX4; op++)
+        for (unsigned one = 0; one < 2 && target == SM_30; one++)
+            if (is_lane_arithmetic(op))
+                kind("other: %s against itself, %s", spelling[op], one_or_two(one));
+    for EACH(i, whole_ops)
+        if (whole_ops[i] != W_VSET || target >= SM_20)
+            kind("other: %s one source twice", spelling[whole_ops[i]]);
+}
+
+/* A line of vset2 or vset4 that is read, or 15, at sm_30. */
+static void count_strict_lanes(const Machine *m, const Byte *p, size_t length, const LineText *t, bool fifteen)
+{
+    const char *answer = fifteen ? "15" : "read";
+    unsigned mask = 0, itself = 0, by = 0;
+    bool one = text_one(t);
+    for (unsigned i = 0; i < t->lanes; i++) {
+        mask |= (unsigned)lane_masked(t, i) << i;
+        itself |= (unsigned)lane_itself(t, i) << i;
+        by += lane_masked(t, i) && lane_itself(t, i);
+    }
+    char masked[8], against[8];
+    lanes_text(mask, masked);
+    lanes_text(itself, against);
+    hit("lanes: vset%u mask %s, against themselves %s, %s", t->lanes, masked, against, one_or_two(one));
+    for (unsigned i = 0; i < t->lanes; i++) {
+        bool in_mask = (mask >> i & 1) != 0, is_itself = (itself >> i & 1) != 0;
+        const char *group = fifteen ? (in_mask && is_itself && by == 1 ? "15 by one lane" : NULL)
+                            : in_mask ? "read" : is_itself ? "read past" : NULL;
+        if (group != NULL)
+            hit("%s: vset%u lane %u, %c and %c, %s", group, t->lanes, i, digit_of(t, A, i), digit_of(t, B, i), one_or_two(one));
+    }
+    Text head = head_text(p);
+    hit("head: %.*s %s", (int)head.length, (const char *)head.at, answer);
+    hit("written: vset%u %s, %s, %s: %s", t->lanes, hows[t->how[0]], hows[t->how[1]], hows[t->how[2]], answer);
+    static const char *const names[] = { "d is", "", "", "c is" };
+    for (unsigned i = D; i <= C; i += C)
+        for (unsigned j = A; j <= B && !one; j++)
+            if (strcmp(t->word[i], t->word[j]) == 0)
+                hit("also: vset%u %s %s: %s", t->lanes, names[i], j == A ? "a" : "b", answer);
+    if (fifteen && one)
+        hit("register: vset%u %s with itself", t->lanes, t->word[A]);
+    if (!fifteen && !one) {
+        LineText as_one = *t;
+        strcpy(as_one.word[B], t->word[A]);
+        unsigned a = (unsigned)atoi(t->word[A] + 2), b = (unsigned)atoi(t->word[B] + 2), differ = a ^ b;
+        if (text_itself(&as_one)) {
+            for (unsigned bit = 0; bit < 6; bit++)
+                if (differ == 1u << bit)
+                    hit("nearly: vset%u numbers differ in bit %u", t->lanes, bit);
+            if (strncmp(t->word[A], t->word[B], strlen(t->word[A])) == 0)
+                hit("nearly: vset%u a's number begins b's", t->lanes);
+            if (strncmp(t->word[A], t->word[B], strlen(t->word[B])) == 0)
+                hit("nearly: vset%u b's number begins a's", t->lanes);
+        }
+    }
+    if (fifteen && length == LINE_MOST)
+        hit("length: vset%u 15 in 160 bytes", t->lanes);
+    if (fifteen && memchr(p, '\t', length) != NULL)
+        hit("blanks: vset%u 15 with a tab", t->lanes);
+    /* what the line would have done */
+    Line line;
+    Record rec;
+    Machine after = *m;
+    read_line(p, length, SM_30, ORDINARY, &line, &rec);
+    bool taken = execute(&after, &rec, SM_30);
+    hit("guard: vset%u %s: %s", t->lanes, !rec.guarded ? "none" : taken ? "true" : "false", answer);
+    if (fifteen && !taken)
+        hit("effect: vset%u guard false", t->lanes);
+    if (fifteen && after.r[rec.d] != m->r[rec.d])
+        hit("effect: vset%u d would have changed", t->lanes);
+}
+
+/* One of 1 to 6 where 15 would stand without it, as far as the text tells. */
+static void count_before_15(const Byte *p, size_t length, LineText *t, Refusal refusal, size_t place)
+{
+    if (refusal == NO_OPCODE && t->operands == 4) {     /* the lanes by the letter of the selectors */
+        char line[2 * LINE_MOST];
+        snprintf(line, sizeof line, "vset%c %s, %s, %s, %s;\n", strpbrk(t->operand[A], "h") != NULL || strpbrk(t->operand[B], "h") != NULL ? '2' : '4',
+                 t->operand[D], t->operand[A], t->operand[B], t->operand[C]);
+        LineText as_vset = line_text((const Byte *)line);
+        if (memcmp(t->name, "vset", 4) == 0 && text_itself(&as_vset))
+            hit("before 15: 3 %s", "vset and others");
+        return;
+    }
+    if (refusal == NO_SHAPE && t->name[0] == '\0' && t->operands == 0)
+        return;
+    if (!text_vset(t) || !text_itself(t) || refusal == SAME_PLACES)
+        return;
+    if (refusal == TOO_LONG && length == LINE_MOST + 1)
+        hit("length: vset%u 1 in 161 bytes", t->lanes);
+    if (refusal < BAD_OPERANDS) {
+        hit("before 15: %d vset%u", refusal, t->lanes);
+        return;
+    }
+    static const char *const names[] = { "d", "a", "b", "c", "fifth" };
+    Text head = head_text(p);
+    const char *where = p + place < head.at ? "guard" : "end";
+    for (unsigned i = 0; i < t->operands; i++)
+        if (t->at[i] == place)
+            where = names[i];
+    if (refusal == BAD_NUMBER || (strcmp(where, "a") != 0 && strcmp(where, "b") != 0))
+        hit("before 15: %d vset%u %s", refusal, t->lanes, where);
+}
+
+/* Strict reading is ordinary reading but for 15, and 15 stands exactly where the text of the line says so. */
+static void count_strict_line(const Machine *m, const Byte *p, size_t length, const Line *line, Refusal refusal, Target target)
+{
+    Line ordinary_line;
+    Record ordinary_rec;
+    Refusal ordinary = read_line(p, length, target, ORDINARY, &ordinary_line, &ordinary_rec);
+    LineText t = line_text(p);
+    bool fifteen = refusal == AGAINST_ITSELF;
+    if (ordinary != (fifteen ? ACCEPTED : refusal) || (has_place(refusal) && ordinary_line.place != line->place))
+        stop("strict reading differs by more than 15", target_names[target]);
+    if ((ordinary == ACCEPTED && text_vset(&t) && text_itself(&t)) != fifteen)
+        stop("15 is not by the definition", target_names[target]);
+    if (ordinary == ACCEPTED && text_vset(&t))
+        count_strict_lanes(m, p, length, &t, fifteen);
+    if (ordinary == ACCEPTED && !text_vset(&t)) {
+        Word op = word_of((const Byte *)t.name, strlen(t.name));
+        if (is_lane_arithmetic(op) && text_itself(&t))
+            hit("other: %s against itself, %s", t.name, one_or_two(text_one(&t)));
+        for EACH(i, whole_ops)
+            if (op == whole_ops[i] && strcmp(t.operand[A], t.operand[B]) == 0)
+                hit("other: %s one source twice", t.name);
+    }
+    if (refusal != ACCEPTED)
+        hit("answer: refused %d", refusal);
+    if (refusal == TOO_OLD && text_vset(&t)) {
+        const char *itself = text_itself(&t) ? "against itself" : "not so";
+        hit("12: vset%u %s, %s, %s", t.lanes, itself, one_or_two(text_one(&t)), *skip_blanks(p) == '@' ? "guard" : "no guard");
+    }
+    if (refusal >= TOO_LONG && refusal <= SAME_PLACES)
+        count_before_15(p, length, &t, refusal, line->place);
+}
+
+static void count_strict_listing(const char *name, Target target)
+{
+    Machine m;
+    const Byte *p = input, *end = input + read_listing(name);
+    start_machine(&m);
+    while (p < end) {
+        Line line;
+        Record rec;
+        const Byte *feed = memchr(p, '\n', (size_t)(end - p) + 1);
+        Refusal refusal = read_line(p, (size_t)(feed - p), target, STRICT, &line, &rec);
+        count_strict_line(&m, p, (size_t)(feed - p), &line, refusal, target);
+        if (refusal == ACCEPTED)
+            hit("answer: %s", execute(&m, &rec, target) ? "done" : "skipped");
+        p = feed + 1;
+    }
 }
 
 /* ---- the tally ---- */
@@ -2052,16 +2402,21 @@ static unsigned report(void)
 int main(int argc, char **argv)
 {
     Target at = TARGETS;
+    bool strict = argc > 1 && strcmp(argv[1], "--strict") == 0;
+    argc -= strict;
+    argv += strict;
     if (argc > 2 && strcmp(argv[1], "--target") == 0) {
         if (!read_target(argv[2], &at))
             stop("no target", argv[2]);
         argc -= 2;
         argv += 2;
     }
-    if (argc < 2)
-        stop("usage", "coverage [--target NAME] TALLY [LISTING..]");
+    if (argc < 2 || (strict && at == TARGETS))
+        stop("usage", "coverage [[--strict] --target NAME] TALLY [LISTING..]");
     fill_dictionary();
-    if (at != TARGETS) {
+    if (strict) {
+        declare_strict(at);
+    } else if (at != TARGETS) {
         declare_target(at);
     } else {
         declare_lines();
@@ -2076,8 +2431,12 @@ int main(int argc, char **argv)
     read_tally(argv[1]);
     if (argc == 2)
         return report() > 0;
-    for (int i = 2; i < argc; i++)
-        count_listing(argv[i], at);
+    for (int i = 2; i < argc; i++) {
+        if (strict)
+            count_strict_listing(argv[i], at);
+        else
+            count_listing(argv[i], at);
+    }
     write_tally(argv[1]);
     return 0;
 }
