@@ -69,9 +69,12 @@ pub fn reading(
         return SAME_PAIR;
     }
     if too_old {
-        return TOO_OLD;
+        TOO_OLD
+    } else if against_itself {
+        AGAINST_ITSELF
+    } else {
+        NONE
     }
-    if against_itself { AGAINST_ITSELF } else { NONE }
 }
 
 // The first refusal of executing that applies, 0 where none does.
