@@ -5,7 +5,7 @@ use mathlib.Core.Path.{_≡_, refl, ap₂}
 use mathlib.Core.Bool.{Bool, true, false, _&&_}
 use mathlib.Core.List.{List, [], _∷_}
 use lib.Dec.{eqb}
-use borrow.Author.Tests.{eqb-true}
+use borrow.Author.Tests.{eqb-true, eq-eqb}
 
 unfoldable pub sameText : List ℕ → List ℕ → Bool
 sameText [] [] = true
@@ -16,7 +16,12 @@ sameText (a ∷ l) (b ∷ k) = eqb a b && sameText l k
 off : {A : Type 0} → false ≡ true → A
 off e = let z : _≡_ {A = ℕ} 0 1 = cc in absurd (omega arith)
 
--- those that pass are one
+-- a text passes with itself, and those that pass are one
+pub text-same : (l : List ℕ) → sameText l l ≡ true
+unfolding sameText
+text-same [] = refl
+text-same (a ∷ l) = rw (eq-eqb a a refl, text-same l)
+
 pub same-text : (l k : List ℕ) → sameText l k ≡ true → l ≡ k
 unfolding sameText
 same-text [] [] e = refl
