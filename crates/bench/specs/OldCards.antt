@@ -112,7 +112,7 @@ accepted-later old new mode l x h (accepts m q a) =
     accepts x q (record { allowed = record { legal = a .allowed .legal; allowed = targets.allows-later old new x h (a .allowed .allowed) }; passed = a .passed })
 
 -- sm_30 gives what was given before there were targets: no line gets 12, and one that spells a legal record is accepted (T-09: if the mode passes it). By
--- `older-answers` each other refusal is every target's
+-- `older-answers` each refusal but 12 and 15 is every target's
 pub newest-without-12 : (mode : Mode) (l : List ℕ) → Applies Sm30 mode l 12 → ⊥
 newest-without-12 mode l (too-old x q a) = off (sym (targets.newest-allows x) ∙ a)
 

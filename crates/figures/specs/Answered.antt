@@ -221,14 +221,17 @@ answered =
     ∷ strictly (bytes "vset2.u32.u32.eq.add %r1.h1, %r2.h01, %r3.h02, %r4;") (refused 15)
     ∷ strictly (bytes "vset2.u32.u32.eq %r1.h0, %r2.h01, %r2.h03, %r4;") (refused 15)
     ∷ strictly (bytes "vset2.u32.u32.eq %r1.h0, %r2.h01, %r2.h02, %r4;") (read apartVset2)
-    -- both selectors pick from b; the same part of two registers is read; the last lane counts
+    -- each lane by itself: 1, 2 and, both selectors picking from b, 3 (0 is above); the same part of two registers is read
+    ∷ strictly (bytes "vset4.u32.u32.eq %r1.b1, %r2, %r3.b7614, %r4;") (refused 15)
+    ∷ strictly (bytes "vset4.u32.u32.eq %r1.b2, %r2, %r3.b7254, %r4;") (refused 15)
     ∷ strictly (bytes "vset4.u32.u32.ne %r1.b3, %r2.b4000, %r3.b4111, %r4;") (refused 15)
     ∷ strictly (bytes "vset4.u32.u32.lt %r10, %r1, %r2, %r0;") (read exampleVset4)
     ∷ strictly (bytes "@!%p1 vset4.u32.u32.lt.add %r2, %r2.b3333, %r3.b3777, %r2;") (refused 15)
     -- T-01's arithmetic and scalar vset are not touched
     ∷ strictly (bytes "vadd4.u32.u32.u32 %r1, %r2, %r2, %r4;") (read sameVadd4)
     ∷ strictly (bytes "vset.u32.u32.lt %r1, %r2.b0, %r2.b0;") (read sameVset)
-    -- 1 to 7 come first, with their places, and 12
+    -- 1, 2, 4, 5 and 6 come first, with the places that they have, and 12; no such line can have 3 or 7
+    ∷ strictly (bytes "vset4.u32.u32.lt %r1, %r2, %r2, %r4;" ++ replicate 125 32) (refused 1)
     ∷ strictly (bytes "vset4.u32.u32.lt %r1, %r2, %r2, %r4") (refused-at 2 35)
     ∷ strictly (bytes "vset4.u32.u32.lt.max %r1, %r2, %r2, %r4;") (refused-at 4 17)
     ∷ strictly (bytes "vset4.u32.u32.lt %r1.b01, %r2, %r2, %r4;") (refused-at 5 17)

@@ -1,5 +1,5 @@
--- T-09: what it is to be against itself, lane by lane, and what that means for the registers: two digits have one origin exactly where they pick the
--- same whatever the registers hold. Assumes nothing.
+-- T-09: what it is to be against itself, lane by lane, and what that means for the registers: two digits that there are, of registers that there are,
+-- have one origin exactly where they pick the same whatever the registers hold. Assumes nothing.
 use Prim.Native.Nat.{ℕ, zero, suc, _+_, _-_, _<_}
 use native.Mathlib.Nat.{zero-mod, zero-div}
 use native.Mathlib.Omega.{arith}
