@@ -1,10 +1,12 @@
--- Change request T-09, "No byte against itself", for someone who reads strictly: what strict reading refuses, and what it leaves as it is. Laws of `Answers`, which `read`
--- of src/lib.rt promises in each mode; which records are against themselves says crates/rules/specs/Strict.antt. Assumes nothing.
-use Prim.Native.Nat.{ℕ, _<_}
-use mathlib.Core.Path.{_≡_, refl, sym, ap, _∙_}
+-- Change request T-09, "No byte against itself", for someone who reads strictly: what strict reading refuses, and what it leaves as it is. Laws of `againstItself` and `origin`
+-- (crates/rules/specs/Strict.antt), and of `Answers`, which `read` of src/lib.rt promises in each mode. Assumes nothing.
+use Prim.Native.Nat.{ℕ, _+_, _<_}
+use mathlib.Core.Path.{_≡_, refl, sym, ap, subst, _∙_}
 use mathlib.Core.Bool.{Bool, true, false, _&&_, and-eq-true-iff}
 use mathlib.Core.List.{List, [], _∷_, _++_}
 use borrow.Author.Tests.{ltb-true}
+use Rattle.signs.specs.Lists.{Listed}
+use Rattle.signs.specs.Lists.Listed.{here, later}
 use Rattle.record.specs.Registers.{Files, r, at, wordCount}
 use Rattle.record.specs.Operands.{maskFits, digitsFit, lanesFit, instructionOperandsFit}
 use Rattle.record.specs.Refusals.{lanesInRange, instructionInRange, Legal}
@@ -27,12 +29,13 @@ use Rattle.rules.specs.Executing.{Admitted}
 use Rattle.rules.specs.Targets.{allows, Allowed}
 use Rattle.rules.specs.Strict.{origin, lanesAgainstItself, againstItself, passes}
 use Rattle.rules.specs.StandardLine.{standard}
-use Rattle.rules.specs.Reading.{Relates, Applies, too-long, shapeless, unknown, rowless, unfit, outside, equal, too-old, against-itself, readingOrder, FirstOf, this, next, Answer, read, refused, Answers, accepts}
+use Rattle.rules.specs.Reading.{Relates, Applies, too-long, shapeless, unknown, rowless, unfit, outside, equal, too-old, against-itself, readingOrder, FirstOf, this, next, Placed, placeless, Answer, read, refused, refused-at, Answers, accepts, refuses, refuses-at}
 use Rattle.laws.specs.PlaceLaws as places
 use Rattle.laws.specs.PlaceLaws.{off}
 use Rattle.laws.specs.LaneLaws.{digit-named}
 use Rattle.strict.specs.OriginLaws as origins
 use Rattle.strict.specs.OriginLaws.{AgainstItself, standsAt}
+use Rattle.read.specs.Answering as answering
 use Rattle.read.specs.Promises as promises
 use Rattle.read.specs.Promises.{stricter}
 
@@ -76,20 +79,31 @@ pub others-no-matter : (g h : Guard) (cmp e : Cmp6) (t u v w : VideoType) (add p
 unfolding lanesAgainstItself
 others-no-matter g h cmp e t u v w add plus d c x y l = refl
 
+-- also when a and b are one register under two names of parts
+pub two-names : (l : Lanes) (k : ℕ) → l .a .0 ≡ l .b .0 → k < lanes (l .width) → origin l k ≡ origin l (lanes (l .width) + k)
+two-names l k e h = origins.two-names l k e h
+
 -- ==== what that means: a lane's two selectors have one origin exactly where they pick the same, whatever the registers hold
 
-module _ (x : Record) (legal : Legal x) (cmp : Cmp6) (l : Lanes) (is : x .instruction ≡ VsetLanes cmp l) (i : ℕ) (inside : i < lanes (l .width)) where
+module _ (l : Lanes) (i : ℕ) where
   -- the part that a selector picks for lane i
-  abbrev pub picked : Files → Digits → ℕ
-  picked f s = numbered (l .width) (at f (r (l .a))) (at f (r (l .b))) (digitAt s i)
+  abbrev pub pickedPart : Files → Digits → ℕ
+  pickedPart f s = numbered (l .width) (at f (r (l .a))) (at f (r (l .b))) (digitAt s i)
 
   -- the same part of the same register
   abbrev pub OneOrigin : Type 0
   OneOrigin = origin l (digitAt (l .asel) i) ≡ origin l (digitAt (l .bsel) i)
 
-  pub one-picks : OneOrigin → (f : Files) → picked f (l .asel) ≡ picked f (l .bsel)
+  pub one-picks : OneOrigin → (f : Files) → pickedPart f (l .asel) ≡ pickedPart f (l .bsel)
   one-picks e f = origins.picks l f (digitAt (l .asel) i) ∙ ap (standsAt (l .width) f) e ∙ sym (origins.picks l f (digitAt (l .bsel) i))
 
+  -- so that, with one type on both sides, `eq` holds there in all registers: an antenna compared with itself and counted as agreement
+  pub always-equal : OneOrigin → l .atype ≡ l .btype → (f : Files) → laneHolds Eq l (at f (r (l .a))) (at f (r (l .b))) i ≡ true
+  unfolding laneHolds holdsZ
+  always-equal e t f = rw (one-picks e f, t) (origins.equal-itself (laneNumber (l .width) (l .btype) (l .bsel) (at f (r (l .a))) (at f (r (l .b))) i))
+
+-- and, of a legal record, the other way
+module _ (x : Record) (legal : Legal x) (cmp : Cmp6) (l : Lanes) (is : x .instruction ≡ VsetLanes cmp l) (i : ℕ) (inside : i < lanes (l .width)) where
   numbers : lanesInRange l ≡ true
   numbers = let k = simp and-eq-true-iff at (places.legal-parts x legal .2) in ap instructionInRange (sym is) ∙ k .1
 
@@ -101,18 +115,13 @@ module _ (x : Record) (legal : Legal x) (cmp : Cmp6) (l : Lanes) (is : x .instru
       let k = simp and-eq-true-iff at numbers in
       origins.origin-inside l wordCount (digitAt s i) (ltb-true (l .a .0) wordCount (k .0 .0 .1)) (ltb-true (l .b .0) wordCount (k .0 .1)) (digit-named (l .width) s e i inside)
 
-  pub picks-one : ((f : Files) → Admitted f → picked f (l .asel) ≡ picked f (l .bsel)) → OneOrigin
+  pub picks-one : ((f : Files) → Admitted f → pickedPart l i f (l .asel) ≡ pickedPart l i f (l .bsel)) → OneOrigin l i
   picks-one h =
       let k = origins.both (maskFits (l .width) (l .mask) && digitsFit (l .width) (l .asel)) (digitsFit (l .width) (l .bsel)) fits in
       let a = there (l .asel) (origins.both (maskFits (l .width) (l .mask)) (digitsFit (l .width) (l .asel)) (k .0) .1) in
       let b = there (l .bsel) (k .1) in
       origins.stands-one (l .width) (origin l (digitAt (l .asel) i)) (origin l (digitAt (l .bsel) i)) (a .0) (b .0) (a .1) (b .1)
       (λ f e. sym (origins.picks l f (digitAt (l .asel) i)) ∙ h f e ∙ origins.picks l f (digitAt (l .bsel) i))
-
-  -- so that, with one type on both sides, `eq` holds there in all registers: an antenna compared with itself and counted as agreement
-  pub always-equal : OneOrigin → l .atype ≡ l .btype → (f : Files) → laneHolds Eq l (at f (r (l .a))) (at f (r (l .b))) i ≡ true
-  unfolding laneHolds holdsZ
-  always-equal e t f = rw (one-picks e f, t) (origins.equal-itself (laneNumber (l .width) (l .btype) (l .bsel) (at f (r (l .a))) (at f (r (l .b))) i))
 
 -- ==== strict reading: 15, without a place, after 12
 
@@ -183,7 +192,32 @@ module _ (target : Target) (l : List ℕ) where
   pub first-before : (n : ℕ) → FirstOf target Ordinary l n readingOrder → FirstOf target Ordinary l n orderBefore
   first-before n f = shorter n orderBefore f
 
--- and each of these applies to a line in one mode where it does in the other
+-- so a line that is refused gets the number that it got, with the place or without
+abbrev pub placelessBefore : List ℕ
+placelessBefore = 1 ∷ 12 ∷ []
+
+pub ordinary-refused : (target : Target) (l : List ℕ) (n : ℕ) → Answers target Ordinary l (refused n) → FirstOf target Ordinary l n orderBefore × Listed n placelessBefore
+ordinary-refused target l n (refuses f i) = (first-before target l n f, go i)
+  where
+    go : Listed n placeless → Listed n placelessBefore
+    go (here e) = here e
+    go (later (here e)) = later (here e)
+    go (later (later (here e))) = absurd (ordinary-without-15 target l (subst (Applies target Ordinary l) e (answering.first-applies target Ordinary l n readingOrder f)))
+
+pub refused-ordinary : (target : Target) (l : List ℕ) (n : ℕ) → FirstOf target Ordinary l n orderBefore → Listed n placelessBefore → Answers target Ordinary l (refused n)
+refused-ordinary target l n f i = refuses (before-first target l n f) (go i)
+  where
+    go : Listed n placelessBefore → Listed n placeless
+    go (here e) = here e
+    go (later (here e)) = later (here e)
+
+pub ordinary-refused-at : (target : Target) (l : List ℕ) (n q : ℕ) → Answers target Ordinary l (refused-at n q) → FirstOf target Ordinary l n orderBefore × Placed l n q
+ordinary-refused-at target l n q (refuses-at f i) = (first-before target l n f, i)
+
+pub refused-at-ordinary : (target : Target) (l : List ℕ) (n q : ℕ) → FirstOf target Ordinary l n orderBefore → Placed l n q → Answers target Ordinary l (refused-at n q)
+refused-at-ordinary target l n q f i = refuses-at (before-first target l n f) i
+
+-- and each number of that order applies to a line in one mode where it does in the other
 pub applies-alike : (target : Target) (mode way : Mode) (l : List ℕ) (n : ℕ) → (n ≡ 15 → ⊥) → Applies target mode l n → Applies target way l n
 applies-alike target mode way l n z (too-long h) = too-long h
 applies-alike target mode way l n z (shapeless h) = shapeless h

@@ -119,7 +119,7 @@ bitsSelp = always (Selp (record { dtype = DataType.B64; d = rd 1; a = rd 2; b = 
 abbrev pub flushedSlct : Record
 flushedSlct = always (Slct (SlctType.F32 true) (record { dtype = DataType.F32; d = w 1; a = w 2; b = w 3 }) (r 4))
 
--- T-09: a line against itself, and three that strict reading reads
+-- T-09: a line against itself, and four that strict reading reads
 abbrev pub sameVset4 : Record
 sameVset4 =
     always

@@ -93,7 +93,7 @@ fn say_listing(target: Target, mode: Mode, listing: &[u8]) {
 
 // How a listing is worked, or the arguments are not what they may be.
 enum Asked {
-    Way(Target, Mode),
+    For(Target, Mode),
     Wrong,
 }
 
@@ -109,27 +109,28 @@ fn target_given() -> Named {
 }
 
 // The listing is ordinary, unless `strict` is given.
-fn way_at(target: Target) -> Asked {
+fn asked_at(target: Target) -> Asked {
     if os::arg_count() < 3 {
-        return Asked::Way(target, Mode::Ordinary);
+        return Asked::For(target, Mode::Ordinary);
     }
-    let mut name = [0u8; 6];
-    let n = os::arg(2, &mut name);
-    if (os::arg_count() == 3) & text::same(&name[..n], b"strict") {
-        return Asked::Way(target, Mode::Strict);
+    // As many bytes as `strict` has; of a longer word `arg` answers none.
+    let mut word = [0u8; 6];
+    let n = os::arg(2, &mut word);
+    if (os::arg_count() == 3) & text::same(&word[..n], b"strict") {
+        return Asked::For(target, Mode::Strict);
     }
     Asked::Wrong
 }
 
-fn way_given() -> Asked {
+fn asked() -> Asked {
     let Named::Is(target) = target_given() else {
         return Asked::Wrong;
     };
-    way_at(target)
+    asked_at(target)
 }
 
 fn main() {
-    let Asked::Way(target, mode) = way_given() else {
+    let Asked::For(target, mode) = asked() else {
         io::write_all(
             STDERR_FILENO,
             b"listing: the target is sm_10, sm_13, sm_20 or sm_30, one of them; behind it may stand `strict`, and nothing else\n",

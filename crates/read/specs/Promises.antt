@@ -1,5 +1,4 @@
 -- Document 01's demand 3, and reading back of demand 2, as laws of the grammar and of `Answers`. Assumes nothing.
-use native.Mathlib.Omega.{arith}
 use mathlib.Core.Path.{_≡_, refl, sym, ap, subst}
 use mathlib.Core.Bool.{Bool, true, false, cond}
 use mathlib.Core.List.{List, _∷_}

@@ -23,7 +23,7 @@ const ANSWER: usize = 83;
 // A target's name has so many bytes.
 const NAME: usize = 5;
 
-// So has `strict`, with its space.
+// `strict` and its space have so many.
 const STRICT: usize = 7;
 
 fn say(s: &[u8]) {

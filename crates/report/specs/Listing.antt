@@ -1,5 +1,5 @@
 -- Document 01, the listing program (under "Bench figures"): what it prints of a listing, T-07: at a target; the listing uses sm_30;
--- T-09: and in a mode; the listing is ordinary unless strict reading is asked for.
+-- T-09: and in a mode; who calls it says which (docs/DECISIONS.md, Z4).
 use Prim.Native.Nat.{ℕ, suc, _≤_, _<_}
 use mathlib.Core.Path.{_≡_}
 use mathlib.Core.Bool.{cond}

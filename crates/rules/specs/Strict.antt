@@ -38,7 +38,7 @@ sameOrigin x y = eqb (x .register) (y .register) && eqb (x .part) (y .part)
 abbrev pub laneAgainstItself : Lanes → ℕ → Bool
 laneAgainstItself l i = sameOrigin (origin l (digitAt (l .asel) i)) (origin l (digitAt (l .bsel) i))
 
--- f holds of one of the first k
+-- f holds of some of the first k
 abbrev pub someOf : ℕ → (ℕ → Bool) → Bool
 someOf zero f = false
 someOf (suc k) f = f 0 || someOf k (λ i. f (suc i))
@@ -69,7 +69,7 @@ unfoldable pub passes : Mode → Record → Bool
 passes Ordinary x = true
 passes Strict x = not (againstItself x)
 
--- the records that reading accepts, at a target and in a mode: the legal ones that the target allows and the mode passes
+-- Demand 3, and the reading back in demand 2, add this condition for strict reading: the legal records that the target allows and the mode passes
 pub record Readable (target : Target) (mode : Mode) (x : Record) : Type 0 where
   pub allowed : Allowed target x
   pub passed : passes mode x ≡ true

@@ -8,7 +8,7 @@ use mathlib.Core.Bool.{Bool, true, false, not, _&&_, _||_, cond}
 use lib.ListN.{getD}
 use lib.Dec.{eqb, ltb}
 use lib.IntN.{ℤ, pos, negsuc}
-use borrow.Author.Tests.{eqb-true, eq-eqb, ltb-true, ltb-false, le-leb}
+use borrow.Author.Tests.{eqb-true, eq-eqb, ltb-true, ltb-false, lt-ltb, le-ltb, le-leb}
 use Rattle.signs.specs.Lists.{tab}
 use Rattle.record.specs.Registers.{Files, files, word, r, at, wordCount, halfCount, doubleCount, predCount}
 use Rattle.record.specs.declared.LaneWidth.{LaneWidth}
@@ -120,7 +120,7 @@ picks l f k = go (ltb k (lanes (l .width)))
     go true = refl
     go false = refl
 
--- the origin of a digit that there is: one of the registers that the line names, and one of their parts
+-- the origin of a digit that there is: a register below any bound that a and b are below, and one of its parts
 pub origin-inside : (l : Lanes) (n k : ℕ) → l .a .0 < n → l .b .0 < n → k < lanes (l .width) + lanes (l .width) → (origin l k .register < n) × (origin l k .part < lanes (l .width))
 origin-inside l n k a b h = go (ltb k (lanes (l .width))) refl
   where
@@ -128,6 +128,13 @@ origin-inside l n k a b h = go (ltb k (lanes (l .width))) refl
         → (cond t (partIn (l .a) k) (partIn (l .b) (k - lanes (l .width))) .register < n) × (cond t (partIn (l .a) k) (partIn (l .b) (k - lanes (l .width))) .part < lanes (l .width))
     go true e = (a, ltb-true k (lanes (l .width)) e)
     go false e = let z = ltb-false k (lanes (l .width)) e in (b, omega arith)
+
+-- one register under two names of parts: 0 and 2, 1 and 3 of a form with 2; 0 and 4, .. of a form with 4
+pub two-names : (l : Lanes) (k : ℕ) → l .a .0 ≡ l .b .0 → k < lanes (l .width) → origin l k ≡ origin l (lanes (l .width) + k)
+two-names l k e h =
+    let n = lanes (l .width) in
+    let back : n + k - n ≡ k = omega arith in
+    rw (lt-ltb k n h, le-ltb (n + k) n (omega arith), back) (ap (λ (m : ℕ). record { register = m; part = k }) e)
 
 at-tab : (n : ℕ) (f : ℕ → ℕ) (i : ℕ) → i < n → getD (tab n f) i 0 ≡ f i
 at-tab zero f i h = absurd (omega arith)
@@ -138,7 +145,7 @@ no-part : (n i : ℕ) → partAt n 0 i ≡ 0
 no-part n zero = zero-mod n
 no-part n (suc i) = rw (zero-div n) (no-part n i)
 
--- two origins where the same stands whatever the registers hold are one
+-- two origins, of registers and parts that there are, where the same stands whatever the registers hold are one
 module _ (w : LaneWidth) (x y : Origin) (registered : x .register < wordCount) (also : y .register < wordCount) (parted : x .part < lanes w) (too : y .part < lanes w) where
   -- 1 at x, 0 in each other part of each register
   abbrev marked : ℕ

@@ -71,6 +71,7 @@ fn lanes_against_itself(l: Lanes) -> bool
     let lane1 = masked_same(l, m.lane1, a.lane1, b.lane1);
     let lane2 = masked_same(l, m.lane2, a.lane2, b.lane2);
     let lane3 = masked_same(l, m.lane3, a.lane3, b.lane3);
+    // Lanes 2 and 3 of a half are spare room, which has no say.
     match w {
         LaneWidth::Half => lane0 | lane1,
         LaneWidth::Byte => lane0 | lane1 | lane2 | lane3,
