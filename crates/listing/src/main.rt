@@ -122,7 +122,7 @@ fn asked_at(target: Target) -> Asked {
     Asked::Wrong
 }
 
-fn asked() -> Asked {
+fn arguments() -> Asked {
     let Named::Is(target) = target_given() else {
         return Asked::Wrong;
     };
@@ -130,7 +130,7 @@ fn asked() -> Asked {
 }
 
 fn main() {
-    let Asked::For(target, mode) = asked() else {
+    let Asked::For(target, mode) = arguments() else {
         io::write_all(
             STDERR_FILENO,
             b"listing: the target is sm_10, sm_13, sm_20 or sm_30, one of them; behind it may stand `strict`, and nothing else\n",
