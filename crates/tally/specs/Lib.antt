@@ -1,7 +1,10 @@
 pub mod Votes
 pub mod Passes
 pub mod Lent
-pub mod Places
+pub mod History
 pub mod VoteLaws
+pub mod Places
 pub mod PlaceLaws
 pub mod CallLaws
+pub mod StepLaws
+pub mod HistoryLaws

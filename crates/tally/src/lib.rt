@@ -120,7 +120,7 @@ fn count_fits(e: Entry) -> bool
 }
 
 // Whether it is a tally: at most 32 tags, none twice, each count 1 to 3.
-fn is_tally(t: Tally) -> bool
+pub fn is_tally(t: Tally) -> bool
     ensures { λ r. ⌜ r ≡ isTally (entriesOf t) ⌝ }
 {
     let n = t.len;

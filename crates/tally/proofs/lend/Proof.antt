@@ -14,7 +14,6 @@ use prog.Memory.{Memory}
 use prog.Routine.{Routine}
 use prog.Wp.{Heap, Calls, Loops, WpFn, Tables}
 use ghost.Atoms.{Atoms, sem}
-use contract.Lifetimes.{Lfts}
 use contract.Monad.{Fun, fact}
 use contract.Running.{givenOf, tables, tablesOf}
 use types.Kit.{Given, ‵, raw, _⊛_, ⋆, some, later, _$_, _∵_, !, qed, by, move, keep, drop, use1, use2, use3, split, join, pick, fsplit, fjoin, fpick, fpack, suffices, frame, await, done}
@@ -36,14 +35,13 @@ use denote.Struct.Laws as LL
 use denote.Enum.Laws as EL
 use denote.Triple.Statement.{Contract, Triple}
 use denote.Triple.Call.{calls-at}
-use denote.Triple.Clauses.{AtExit, ensured, lasts}
+use denote.Triple.Clauses.{ensured, lasts}
 use denote.Triple.Entry.{onEntry}
 use denote.Triple.Spec.{Meets, tripleOf}
 use denote.Triple.Table.{entered, cited}
 use denote.Triple.Walked.{says, Stays, stay-none, walkOf, AllGo, goes-none, Walks, ends-at, walked, walk-meets}
 use denote.Exit.{yes}
-use Rattle.base.specs.Promise.{one-outcome}
-use Rattle.tally.specs.Lent.{Outcome, outcome, answerOf, answers-one, callOf}
+use Rattle.tally.specs.Lent.{outcome, answerOf, callOf}
 use Rattle.tally.specs.declared.Passed.{Passed}
 use Rattle.tally.specs.declared.Read.{Read}
 use Rattle.tally.specs.declared.Tally.{Tally}
@@ -193,18 +191,3 @@ lend-spec 𝓤 H 𝓜 𝓖 𝓡 =
     (tables 𝓤 H 𝓜 𝓡 code.env .C) (tables 𝓤 H 𝓜 𝓡 code.env .Λ) #tally·lend code.function (code.unfolded 𝓤 H 𝓜 𝓡)
     (lnd-meets 𝓤 H (𝓖 .A) (givenOf 𝓤 H 𝓜 𝓖) (𝓜 .mem) (𝓡 .run) (tablesOf 𝓤 H 𝓜 (tables 𝓤 H 𝓜 𝓡 code.env))
     (cited 𝓤 H (Pss 𝓤 H (𝓖 .A) (𝓜 .mem) (𝓡 .run)) 𝓜 𝓡 code.env #tally·pass pss-def.routine code.calls-tally·pass (pss-thm.met 𝓤 H 𝓜 𝓖 𝓡)))
-
--- what the contract promises, as it stands in src/lib.rt, of the struct that is returned
-abbrev Promise : Tally → Read → ℕ → Updated → Type 0
-Promise h r f x = outcome (answerOf (x .answer)) (x .tally) ≡ callOf h r f
-
-pub lend-promise : {M : Type 1} (𝓤 : URA M) (H : Heap 𝓤) (A : Atoms 𝓤) (mem : Memory → SProp 𝓤) (run : Routine → Fun 𝓤) (κs : Lfts 0) (a : Arg) (x : Updated) (s : AtExit lnd.ended κs)
-    → lnd.clauses 𝓤 H A mem run κs a .ensures tt x s ≡ fact 𝓤 (Promise (a .0) (a .1 .0) (a .1 .1 .0) x)
-lend-promise 𝓤 H A mem run κs a x s = refl
-
--- no two outcomes satisfy it
-pub lend-one-outcome : (h : Tally) (r : Read) (f : ℕ) (x y : Updated) → Promise h r f x → Promise h r f y → x ≡ y
-lend-one-outcome h r f x y p q =
-    let z = one-outcome p q in
-    let e = answers-one (x .answer) (y .answer) (ap (λ (o : Outcome). o .answer) z) in
-    λ i. record { answer = e i; tally = z i .tally }

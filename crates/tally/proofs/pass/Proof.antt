@@ -14,7 +14,6 @@ use prog.Memory.{Memory}
 use prog.Routine.{Routine}
 use prog.Wp.{Heap, Calls, Loops, WpFn, Tables}
 use ghost.Atoms.{Atoms, sem}
-use contract.Lifetimes.{Lfts}
 use contract.Monad.{Fun, fact}
 use contract.Running.{givenOf, tables, tablesOf}
 use types.Kit.{Given, ‵, raw, _⊛_, ⋆, some, later, _$_, _∵_, !, qed, by, move, keep, drop, use1, split, join, pick, rewrite, fsplit, fsplit3, fjoin, fjoin3, feqI, suffices, frame, await, done}
@@ -27,7 +26,7 @@ use denote.Laws.{Is, shows}
 use denote.Memory.{mem}
 use denote.Plain.{uint-vals, uint-tells, uint-makes}
 use denote.Builtin.{u8}
-use denote.Ref.{now, RefT, MutRef, ptr-vals, mut-tells}
+use denote.Ref.{RefT, MutRef, ptr-vals, mut-tells}
 use denote.Signature.{plain}
 use denote.Steps.{only, opens, closes, owned, peeks, heard, nothing}
 use denote.Struct.Steps.{spelt}
@@ -35,14 +34,13 @@ use denote.Struct.Laws as LL
 use denote.Enum.Laws as EL
 use denote.Triple.Statement.{Contract, Triple}
 use denote.Triple.Call.{calls-at}
-use denote.Triple.Clauses.{AtExit, ensured, lasts}
+use denote.Triple.Clauses.{ensured, lasts}
 use denote.Triple.Entry.{onEntry}
 use denote.Triple.Spec.{Meets, tripleOf}
 use denote.Triple.Table.{entered, cited}
 use denote.Triple.Walked.{says, Stays, stay-ref, stay-none, walkOf, AllGo, goes-none, goes-ref, Walks, ends-at, walked, walk-meets}
 use denote.Exit.{yes}
-use Rattle.base.specs.Promise.{one-outcome}
-use Rattle.tally.specs.Lent.{Outcome, outcome, answerOf, answers-one, callOf}
+use Rattle.tally.specs.Lent.{outcome, answerOf, callOf}
 use Rattle.tally.specs.declared.Passed.{Passed}
 use Rattle.tally.specs.declared.Read.{Read}
 use Rattle.tally.specs.declared.Tally.{Tally}
@@ -177,17 +175,3 @@ pass-spec 𝓤 H 𝓜 𝓖 𝓡 =
     (tables 𝓤 H 𝓜 𝓡 code.env .C) (tables 𝓤 H 𝓜 𝓡 code.env .Λ) #tally·pass code.function (code.unfolded 𝓤 H 𝓜 𝓡)
     (pss-meets 𝓤 H (𝓖 .A) (givenOf 𝓤 H 𝓜 𝓖) (𝓜 .mem) (𝓡 .run) (tablesOf 𝓤 H 𝓜 (tables 𝓤 H 𝓜 𝓡 code.env))
     (cited 𝓤 H (Upd 𝓤 H (𝓖 .A) (𝓜 .mem) (𝓡 .run)) 𝓜 𝓡 code.env #tally·update upd-def.routine code.calls-tally·update (upd-thm.met 𝓤 H 𝓜 𝓖 𝓡)))
-
--- what the contract promises, as it stands in src/lib.rt, of the answer and the struct that is left
-abbrev Promise : Tally → Read → ℕ → Passed → Tally → Type 0
-Promise h r f x t = outcome (answerOf x) t ≡ callOf h r f
-
-pub pass-promise : {M : Type 1} (𝓤 : URA M) (H : Heap 𝓤) (A : Atoms 𝓤) (mem : Memory → SProp 𝓤) (run : Routine → Fun 𝓤) (κs : Lfts 1) (a : Arg) (x : Passed) (s : AtExit pss.ended κs)
-    → pss.clauses 𝓤 H A mem run κs a .ensures tt x s ≡ fact 𝓤 (Promise (a .0 .now) (a .1 .0) (a .1 .1 .0) x (now (s .0)))
-pass-promise 𝓤 H A mem run κs a x s = refl
-
--- no two outcomes, answer and struct left, satisfy it
-pub pass-one-outcome : (h : Tally) (r : Read) (f : ℕ) (x y : Passed) (s t : Tally) → Promise h r f x s → Promise h r f y t → (x ≡ y) × (s ≡ t)
-pass-one-outcome h r f x y s t p q =
-    let z = one-outcome p q in
-    (answers-one x y (ap (λ (o : Outcome). o .answer) z), ap (λ (o : Outcome). o .tally) z)

@@ -1,0 +1,5 @@
+pub mod Log
+pub mod Spelling
+pub mod SpellingLaws
+pub mod Steps
+pub mod StepLaws
