@@ -3,3 +3,4 @@ pub mod Spelling
 pub mod SpellingLaws
 pub mod Steps
 pub mod StepLaws
+pub mod OutputLaws

@@ -247,14 +247,7 @@ fn put_line(out: &mut [u8], floor: u8, number: u64, t: Tally, line: &[u8]) -> Pu
 }
 
 // The line that begins at a place, where there is one, and room for its text.
-fn log_one(
-    floor: u8,
-    input: &[u8],
-    from: usize,
-    number: u64,
-    t: Tally,
-    out: &mut [u8],
-) -> Progress
+fn log_one(floor: u8, input: &[u8], from: usize, number: u64, t: Tally, out: &mut [u8]) -> Progress
     requires { ⌜ (from < length (now input)) × (lineRoom ≤ length (now out)) × (length (now input) ≤ listingLimit) ⌝ }
     ensures { λ r. ⌜ Logs floor (now (input .entry)) from number t (now (out .entry)) (r .at) (r .number) (r .len) (r .tally) (now (out .exit)) ⌝ }
 {

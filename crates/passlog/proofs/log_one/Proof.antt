@@ -55,7 +55,7 @@ same-length c = search needs
 returns : tie.Need-returns
 returns c =
     let u : c .before .before .before .before .before .before .before .until .result ≡ lengthTo lineFeed (drop (c .before .before .before .before .before .before .before .before .before .before .before .args .from) (now (c .before .before .before .before .before .before .before .before .before .before .before .args .input))) =
-        c .before .before .before .before .before .before .before .until .ensures .1 ∙ ap (lengthTo lineFeed) (part-rest (c .before .before .before .before .before .before .before .before .before .before .before .args .from) (now (c .before .before .before .before .before .before .before .before .before .before .before .args .input))) in
+    c .before .before .before .before .before .before .before .until .ensures .1 ∙ ap (lengthTo lineFeed) (part-rest (c .before .before .before .before .before .before .before .before .before .before .before .args .from) (now (c .before .before .before .before .before .before .before .before .before .before .before .args .input))) in
     let q : c .before .before .before .before .before .before .before .before .before .before .before .args .from + c .before .before .before .before .before .before .before .until .result - c .before .before .before .before .before .before .before .before .before .before .before .args .from ≡ lengthTo lineFeed (drop (c .before .before .before .before .before .before .before .before .before .before .before .args .from) (now (c .before .before .before .before .before .before .before .before .before .before .before .args .input))) = omega (arith, u) in
     rw (c .wrapping-add-u64 .ensures, u) (line-logged (c .before .before .before .before .before .before .before .before .before .before .before .pre .0) (c .before .before .before .before .before .before .before .before .before .before .before .pre .1) (c .before .before .before .before .before .before .before .before .before .before .before .pre .2) (search needs) (rw q at (c .before .before .before .before .put-line .ensures)))
 

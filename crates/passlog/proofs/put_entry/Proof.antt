@@ -30,9 +30,9 @@ same-length c = search needs
 
 returns : tie.Need-returns
 returns c = (
-      ((c .before .before .before .before .before .before .before .before .before .before .before .before .before .before .before .put-two .ensures then c .before .before .before .before .before .before .before .before .before .before .put-decimal .ensures) then c .before .before .before .before .before .before .put-washed .ensures) then c .before .before .push .ensures,
-      entry-short (c .before .before .before .before .before .before .before .before .before .before .before .before .before .before .before .before .before .before .args .e) (search needs) (search needs) (search needs),
-    )
+  ((c .before .before .before .before .before .before .before .before .before .before .before .before .before .before .before .put-two .ensures then c .before .before .before .before .before .before .before .before .before .before .put-decimal .ensures) then c .before .before .before .before .before .before .put-washed .ensures) then c .before .before .push .ensures,
+  entry-short (c .before .before .before .before .before .before .before .before .before .before .before .before .before .before .before .before .before .before .args .e) (search needs) (search needs) (search needs),
+)
 
 pub put-entry-spec : {M : Type 1} → statement M
 put-entry-spec =
