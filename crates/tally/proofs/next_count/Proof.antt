@@ -1,3 +1,5 @@
+use native.Mathlib.Omega.{arith}
+use Rattle.tally.specs.Passes.{washedCount}
 use borrow.Author.Tests.{le-ltb, lt-ltb}
 use borrow.Author.Needs.{needs}
 use Rattle.tally.proofs.next_count.Statement.{statement}
@@ -10,13 +12,11 @@ add-result c = search needs
 
 returns : tie.Need-returns
 returns c =
-    simp
-    (lt-ltb _ _ (c .if1 .taken))
+    simp (lt-ltb (c .before .args .c) washedCount (omega (arith, c .if1 .taken)))
 
 returns-2 : tie.Need-returns-2
 returns-2 c =
-    simp
-    (le-ltb _ _ (c .if1 .left))
+    simp (le-ltb (c .before .args .c) washedCount (omega (arith, c .if1 .left)))
 
 pub next-count-spec : {M : Type 1} → statement M
 next-count-spec = tie.close (tie.spec add-result returns returns-2)

@@ -24,7 +24,7 @@ held-tag-requires c κs = search needs
 returns : tie.Need-returns
 returns c =
     c .held-tag .ensures
-    ∙ (ap (λ (s : Option Entry). laid (c .before .before .before .before .args .t) (judged (entriesOf (c .before .before .before .before .args .t)) (c .before .before .before .before .args .r) s)) (sym (stands (c .before .before .before .before .args .t) (tally-full (c .before .before .before .before .args .t) _ (c .before .before .before .before .good .0)) (c .before .before .before .before .args .r) (c .before .before .before .before .pre) (c .before .before .place .result) (c .before .if1 .taken) (omega (arith, c .before .before .place .ensures)))))
+    ∙ (ap (λ (s : Option Entry). laid (c .before .before .before .before .args .t) (judged (entriesOf (c .before .before .before .before .args .t)) (c .before .before .before .before .args .r) s)) (sym (stands (c .before .before .before .before .args .t) (tally-full (c .before .before .before .before .args .t) _ (c .before .before .before .before .good .0)) (c .before .before .before .before .args .r) (c .before .before .before .before .pre) (c .before .before .place .result) (omega (arith, c .before .if1 .taken)) (omega (arith, c .before .before .place .ensures)))))
 
 new-tag-requires : tie.Need-new-tag-requires
 new-tag-requires c κs = (c .before .before .before .pre, omega (arith, c .before .place .ensures, c .if1 .left))

@@ -1,3 +1,4 @@
+use native.Mathlib.Omega.{arith}
 use mathlib.Core.Path.{_∙_}
 use borrow.Author.Needs.{needs}
 use Rattle.base.specs.Tests.{failed, passed}
@@ -23,7 +24,7 @@ votes-requires c κs = search needs
 returns-2 : tie.Need-returns-2
 returns-2 c =
     rw (c .before .votes .ensures)
-    (call-weak (c .before .before .before .before .args .t) (tally-full (c .before .before .before .before .args .t) _ (c .before .before .before .before .good .0)) (c .before .before .before .before .args .r) (c .before .before .before .before .args .floor) (passed (c .before .before .before .is-tally .ensures) (c .before .before .if1 .left)) (rw (c .before .votes .ensures) at (c .if2 .taken)))
+    (call-weak (c .before .before .before .before .args .t) (tally-full (c .before .before .before .before .args .t) _ (c .before .before .before .before .good .0)) (c .before .before .before .before .args .r) (c .before .before .before .before .args .floor) (passed (c .before .before .before .is-tally .ensures) (c .before .before .if1 .left)) (omega (arith, c .before .votes .ensures, c .if2 .taken)))
 
 strong-requires : tie.Need-strong-requires
 strong-requires c κs = tally-small (c .before .before .before .before .args .t) (tally-full (c .before .before .before .before .args .t) _ (c .before .before .before .before .good .0)) (passed (c .before .before .before .is-tally .ensures) (c .before .before .if1 .left))
@@ -31,7 +32,7 @@ strong-requires c κs = tally-small (c .before .before .before .before .args .t)
 returns-3 : tie.Need-returns-3
 returns-3 c =
     c .strong .ensures
-    ∙ call-strong (c .before .before .before .before .before .args .t) (tally-full (c .before .before .before .before .before .args .t) _ (c .before .before .before .before .before .good .0)) (c .before .before .before .before .before .args .r) (c .before .before .before .before .before .args .floor) (passed (c .before .before .before .before .is-tally .ensures) (c .before .before .before .if1 .left)) (rw (c .before .before .votes .ensures) at (c .before .if2 .left))
+    ∙ call-strong (c .before .before .before .before .before .args .t) (tally-full (c .before .before .before .before .before .args .t) _ (c .before .before .before .before .before .good .0)) (c .before .before .before .before .before .args .r) (c .before .before .before .before .before .args .floor) (passed (c .before .before .before .before .is-tally .ensures) (c .before .before .before .if1 .left)) (omega (arith, c .before .before .votes .ensures, c .before .if2 .left))
 
 pub update-spec : {M : Type 1} → statement M
 update-spec =
