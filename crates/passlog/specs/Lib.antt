@@ -4,3 +4,4 @@ pub mod SpellingLaws
 pub mod Steps
 pub mod StepLaws
 pub mod OutputLaws
+pub mod Figures

@@ -29,17 +29,25 @@ use Rattle.passlog.specs.Steps.{lineAt, nextPlace, lineRoom, Step, ended
 -- ==== every input has an output, and none has two
 
 -- what lines print and leave
-abbrev turnsText : ℕ → ℕ → List (List ℕ) → Tally → List ℕ
+abbrev pub turnsText : ℕ → ℕ → List (List ℕ) → Tally → List ℕ
 turnsText floor n [] t = []
 turnsText floor n (l ∷ ls) t = loggedLine floor n t (readOf l) ++ turnsText floor (suc n) ls (tallyAfter floor t (readOf l))
 
-abbrev turnsTally : ℕ → List (List ℕ) → Tally → Tally
+abbrev pub turnsTally : ℕ → List (List ℕ) → Tally → Tally
 turnsTally floor [] t = t
 turnsTally floor (l ∷ ls) t = turnsTally floor ls (tallyAfter floor t (readOf l))
 
 all-turns : (floor n : ℕ) (ls : List (List ℕ)) (t : Tally) → Turns floor n ls t (turnsText floor n ls t) (turnsTally floor ls t)
 all-turns floor n [] t = log.ended
 all-turns floor n (l ∷ ls) t = more (read-says l) (all-turns floor (suc n) ls (tallyAfter floor t (readOf l)))
+
+-- and the output that they make up
+abbrev pub computed : ℕ → List ℕ → List ℕ
+computed floor s = turnsText floor 1 (linesOf s) emptyTally ++ endText (entriesOf (turnsTally floor (linesOf s) emptyTally))
+
+-- (the limit stands here as the issue has it, so that it does not hang on a name)
+pub computed-output : (floor : ℕ) (s : List ℕ) → length s ≤ 65536 → Output floor s (computed floor s)
+computed-output floor s h = printed h (all-turns floor 1 (linesOf s) emptyTally)
 
 pub every-input : (floor : ℕ) (s : List ℕ) → (t : List ℕ) × Output floor s t
 every-input floor s = go (ltb listingLimit (length s)) refl

@@ -8,3 +8,4 @@ pub mod PlaceLaws
 pub mod CallLaws
 pub mod StepLaws
 pub mod HistoryLaws
+pub mod Figures
