@@ -10,7 +10,7 @@ use Rattle.passlog.specs.declared.Floor.{Floor}
 use Rattle.passlog.specs.declared.Progress.{Progress}
 use Rattle.passlog.specs.declared.Ended.{Ended}
 use Rattle.passlog.specs.SpellingLaws.{read-one, floor-one}
-use Rattle.passlog.specs.Steps.{lines-one, floors-one, Logs, EndOutcome, answers-one}
+use Rattle.passlog.specs.Steps.{lines-one, floors-one, EndOutcome, answers-one}
 use Rattle.passlog.specs.OutputLaws.{logs-one}
 use Rattle.passlog.proofs.read_of.Kinds as read-of-kinds
 use Rattle.passlog.proofs.read_of.Reads as read-of
@@ -30,12 +30,6 @@ pub floor-of-one-outcome :
     (κs : Lfts 1) (a : Dens κs floor-of-kinds.ps) (x y : Floor) (s t : AtExit (endedOf 1 floor-of-kinds.ps floor-of-kinds.r) κs)
     → floor-of.Post κs a x s → floor-of.Post κs a y t → x ≡ y
 floor-of-one-outcome κs a x y s t p q = floors-one x y (floor-one p q)
-
--- the call's own floor, input, place, number and tally are spoken of: if the contract spoke of others, this law would fail
-pub log-line-logs :
-    (κs : Lfts 2) (a : Dens κs log-line-kinds.ps) (x : Progress) (s : AtExit (endedOf 2 log-line-kinds.ps log-line-kinds.r) κs) → log-line.Post κs a x s
-    → Logs (a .0) (now (a .1 .0)) (a .1 .1 .0) (a .1 .1 .1 .0) (a .1 .1 .1 .1 .0) (now (a .1 .1 .1 .1 .1 .0)) (x .at) (x .number) (x .len) (x .tally) (now (s .1 .1 .1 .1 .1 .0))
-log-line-logs κs a x s p = p
 
 pub log-line-one-outcome :
     (κs : Lfts 2) (a : Dens κs log-line-kinds.ps) (x y : Progress) (s t : AtExit (endedOf 2 log-line-kinds.ps log-line-kinds.r) κs)

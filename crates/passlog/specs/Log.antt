@@ -1,4 +1,4 @@
--- What the tally program (`./bench --tally FLOOR`, docs/DECISIONS.md, W6) takes and prints of document 02's T-13: reads, a line for each, and at the end
+-- What the tally program (`./bench --tally FLOOR`, docs/DECISIONS.md, V7) takes and prints of document 02's T-13: reads, a line for each, and at the end
 -- the tags. Lines, the limit and `input too long` are those of the listing program.
 use Prim.Native.Nat.{ℕ, suc, _≤_, _<_, _^_}
 use mathlib.Core.Path.{_≡_}

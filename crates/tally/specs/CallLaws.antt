@@ -16,10 +16,8 @@ use Rattle.tally.specs.Votes.{voteOf}
 use Rattle.tally.specs.Passes.{mostTags, enoughVotes, entry, counted, duplicate, weak, refused, standing, noted, isTally, nextCount, judged, called}
 use Rattle.tally.specs.Lent.{noEntry, entriesOf, keeping, outcome, laid, callOf}
 use Rattle.tally.specs.Places.{placeOf, putAt}
+use Rattle.tally.specs.StepLaws.{clash}
 use Rattle.tally.specs.PlaceLaws.{place-le, standing-at, standing-none, entries-length, entries-taken, keeping-same, keeping-noted, tally-over}
-
-clash : true ≡ false → ⊥
-clash p = let z : _≡_ {A = ℕ} 0 1 = cc in omega arith
 
 module _ (t : Tally) (full : length (t .entries) ≡ mostTags) where
   pub tally-small : isTally (entriesOf t) ≡ true → t .len ≤ mostTags
@@ -27,7 +25,7 @@ module _ (t : Tally) (full : length (t .entries) ≡ mostTags) where
     where
       go : (b : Bool) → leb (t .len) mostTags ≡ b → t .len ≤ mostTags
       go true h = leb-true (t .len) mostTags h
-      go false h = absurd (clash (sym e ∙ tally-over t full (leb-false (t .len) mostTags h)))
+      go false h = absurd (clash (sym (tally-over t full (leb-false (t .len) mostTags h)) ∙ e))
 
 -- ==== by the entry of the read's tag
 
