@@ -32,7 +32,20 @@ const LINE_FEED: u8 = 10;
 
 const SPACE: u8 = 32;
 
+const DECIMAL: u8 = 10;
+
+const HEXADECIMAL: u8 = 16;
+
 const WORD_SIZE: u64 = 4294967296;
+
+// How many hexadecimal digits a word and a floor have, and how many floors there are.
+const WORD_DIGITS: u8 = 8;
+
+const FLOOR_DIGITS: u8 = 2;
+
+const FLOORS: u32 = 256;
+
+const FLOOR_ROOM: usize = 2;
 
 const WASHED: u8 = 3;
 
@@ -121,6 +134,7 @@ fn with_digit(v: u32, base: u8, b: u8) -> u32
     ((v as u64 * base as u64 + digit(b) as u64) % WORD_SIZE) as u32
 }
 
+// All of a text's bytes as digits.
 fn number(s: &[u8], base: u8) -> u32
     ensures { λ r. ⌜ r ≡ numberOf base (now (s .entry)) ⌝ }
 {
@@ -138,10 +152,10 @@ fn guess(line: &[u8]) -> Read
     ensures { λ r. ⌜ r ≡ guessOf (now (line .entry)) ⌝ }
 {
     Read {
-        tag: number(word(line), 10),
-        pass: number(word(rest(line)), 10),
-        first: number(word(rest(rest(line))), 16),
-        second: number(word(rest(rest(rest(line)))), 16),
+        tag: number(word(line), DECIMAL),
+        pass: number(word(rest(line)), DECIMAL),
+        first: number(word(rest(rest(line))), HEXADECIMAL),
+        second: number(word(rest(rest(rest(line)))), HEXADECIMAL),
     }
 }
 
@@ -159,9 +173,9 @@ fn put_read(out: &mut [u8], at: usize, r: Read) -> usize
     ensures { λ m. ⌜ Puts (buffer (now (out .entry)) at) (readText r) (buffer (now (out .exit)) m) ⌝ }
 {
     let at1 = put_two(out, at, r.tag, r.pass);
-    let at2 = text::put_hex(out, at1, r.first as u64, 8);
+    let at2 = text::put_hex(out, at1, r.first as u64, WORD_DIGITS);
     let at3 = text::push(out, at2, SPACE);
-    text::put_hex(out, at3, r.second as u64, 8)
+    text::put_hex(out, at3, r.second as u64, WORD_DIGITS)
 }
 
 // A line is a read where it is the text of the read that it would be.
@@ -181,9 +195,9 @@ pub fn read_of(line: &[u8]) -> Line
 pub fn floor_of(word: &[u8]) -> Floor
     ensures { λ r. ⌜ SaysFloor (now (word .entry)) (floorSaid r) ⌝ }
 {
-    let f = (number(word, 16) % 256) as u8;
-    let mut room = [0u8; 2];
-    let n = text::put_hex(&mut room, 0, f as u64, 2);
+    let f = (number(word, HEXADECIMAL) % FLOORS) as u8;
+    let mut room = [0u8; FLOOR_ROOM];
+    let n = text::put_hex(&mut room, 0, f as u64, FLOOR_DIGITS);
     if text::same(&room[..n], word) {
         return Floor::Is(f);
     }
