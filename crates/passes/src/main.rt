@@ -10,7 +10,7 @@ ghost use Prim.Native.Nat.{_≤_};
 ghost use mathlib.Core.Path.{_≡_};
 ghost use mathlib.Core.Bool.{true};
 ghost use lib.ListN.{length};
-ghost use Rattle.passlog.specs.Steps.{lineRoom};
+ghost use Rattle.passlog.specs.Steps.{lineRoom, endRoom};
 ghost use Rattle.passlog.specs.OutputLaws.{Told};
 
 // One byte more than the input may have: a longer one is seen to be too long.
@@ -59,8 +59,10 @@ fn say_lines(floor: u8, input: &[u8], out: &mut [u8]) -> Said
     }
 }
 
-fn say_end(t: Tally, out: &mut [u8]) {
-    // The caller's buffer has room, and what calls leave is a tally, so there is a text.
+// After all lines there is a text: what the calls leave is a tally (`told-ends`), and the buffer has room.
+fn say_end(t: Tally, out: &mut [u8])
+    requires { ⌜ endRoom ≤ length (now out) ⌝ }
+{
     if let Ended::Length(n) = passlog::end(t, out) {
         say_first(out, n);
     }

@@ -16,7 +16,7 @@ use Rattle.tally.specs.Votes.{voteOf}
 use Rattle.tally.specs.Passes.{isTally, called}
 use Rattle.tally.specs.Lent.{entriesOf, keeping, callOf}
 use Rattle.passlog.specs.Log.{loggedLine, Output}
-use Rattle.passlog.specs.Spelling.{lengthTo, numberFrom, guessOf, readOf}
+use Rattle.passlog.specs.Spelling.{lengthTo, numberFrom, guessOf, floorGuess, readOf, floorOf}
 use Rattle.passlog.specs.OutputLaws.{computed, computed-output}
 
 -- texts, each with a line feed behind it
@@ -103,3 +103,8 @@ least-read = refl
 pub words-read : readOf (bytes "7 103 FFFFFFFE 0123ABCD") ≡ readFigure 7 103 0xFFFFFFFE 0x0123ABCD
 unfolding lengthTo numberFrom guessOf sameText decimal decimalIn hex
 words-read = refl
+
+-- a floor
+pub floor-read : floorOf (bytes "8C") ≡ some 0x8C
+unfolding numberFrom floorGuess sameText hex
+floor-read = refl

@@ -1,16 +1,16 @@
--- Every input has one output, and calls of `log_line` until the input ends, followed by `end`, print it. Assumes nothing.
-use Prim.Native.Nat.{ℕ, suc, _+_, _^_, _≤_, _<_}
+-- Every input has one output, and calls of `log_line` until the input ends, followed by `end`, print it; the tally is then that of a history. Assumes nothing.
+use Prim.Native.Nat.{ℕ, suc, _+_, _≤_, _<_}
 use native.Mathlib.Nat.{mod-eq-of-lt}
 use native.Mathlib.Numerals.{add-one}
 use native.Mathlib.Omega.{arith}
 use mathlib.Core.Path.{_≡_, refl, sym, ap, ap₂, subst, _∙_}
 use mathlib.Core.Bool.{Bool, true, false, cond}
 use mathlib.Core.List.{List, [], _∷_, _++_, append-assoc, append-nil}
-use mathlib.Core.Option.{Option}
+use mathlib.Core.Option.{Option, none, some}
 use lib.ListN.{length, take, drop, length-append, length-drop, drop-of-length-le}
 use lib.Seq.{drop-drop, append-snoc, take-at}
-use lib.Dec.{eqb, ltb}
-use borrow.Author.Tests.{ltb-true, ltb-false}
+use lib.Dec.{eqb, ltb, leb}
+use borrow.Author.Tests.{ltb-true, ltb-false, le-ltb}
 use Rattle.signs.specs.Bytes.{lineFeed}
 use Rattle.signs.specs.Text.{bytes}
 use Rattle.rules.specs.Writing.{front}
@@ -18,13 +18,16 @@ use Rattle.report.specs.Listing.{listingLimit, tooLongText, linesWith, linesOf}
 use Rattle.report.specs.Chunks.{nextNumber}
 use Rattle.tally.specs.declared.Read.{Read}
 use Rattle.tally.specs.declared.Tally.{Tally}
+use Rattle.tally.specs.Passes.{isTally}
 use Rattle.tally.specs.Lent.{entriesOf, emptyTally}
+use Rattle.tally.specs.History.{Call, after, countedOf, washed}
+use Rattle.tally.specs.HistoryLaws.{Whole, whole-after, whole-empty, empty-is, washed-exactly}
 use Rattle.passlog.specs.declared.Progress.{Progress}
-use Rattle.passlog.specs.Log.{SaysRead, tallyAfter, loggedLine, endText, Turns, more, Output, printed}
+use Rattle.passlog.specs.Log.{tallyAfter, loggedLine, endText, Turns, more, Output, printed}
 use Rattle.passlog.specs.Log as log
 use Rattle.passlog.specs.Spelling.{lengthTo, before, behind, readOf}
 use Rattle.passlog.specs.SpellingLaws.{read-says, read-one}
-use Rattle.passlog.specs.Steps.{lineAt, nextPlace, lineRoom, Step, ended, no-room, too-long, one-line, Logs, Calls, no-more, one-more}
+use Rattle.passlog.specs.Steps.{lineAt, nextPlace, lineRoom, Step, ended, no-room, too-long, one-line, Logs, Calls, no-more, one-more, endRoom, endOutcome, printed-bytes, refused, ending}
 
 -- ==== every input has an output, and none has two
 
@@ -222,3 +225,51 @@ told c h = record { text = c .text ++ []; calls = c .rest (no-more h) }
 -- with the end behind it that is the input's output
 pub told-output : {floor : ℕ} {s : List ℕ} {g : Tally} (a : Told floor s g) → Output floor s (a .text ++ endText (entriesOf g))
 told-output {floor} {s} a = calls-output floor s (a .calls)
+
+-- ==== the end, and what history the input is
+
+whole-said : (floor : ℕ) (t : Tally) (x : Option Read) → Whole t → Whole (tallyAfter floor t x)
+whole-said floor t none w = w
+whole-said floor t (some r) w = whole-after t w (record { read = r; floor = floor })
+
+calls-whole : {floor from n : ℕ} {s x : List ℕ} {t g : Tally} → Whole t → Calls floor s from n t x g → Whole g
+calls-whole w (no-more h) = w
+calls-whole w (one-more h r (ended a) c) = calls-whole w c
+calls-whole w (one-more h r (no-room a b) c) = calls-whole w c
+calls-whole w (one-more h r (too-long a b d) c) = calls-whole w c
+calls-whole {floor} {t = t} w (one-more h r (one-line {x = y} a b d p) c) = calls-whole (whole-said floor t y w) c
+
+-- `end` prints it: it is not refused, and a buffer with room is enough
+pub told-ends : {floor : ℕ} {s : List ℕ} {g : Tally} (out : List ℕ) → Told floor s g → endRoom ≤ length out
+    → ending g out ≡ endOutcome (printed-bytes (length (endText (entriesOf g)))) (front (endText (entriesOf g)) out)
+unfolding ending
+told-ends out a h = rw (calls-whole (whole-empty emptyTally empty-is) (a .calls) .tally, le-ltb (length out) endRoom h)
+
+-- what is no tally has no end
+pub no-tally-no-end : (t : Tally) (out : List ℕ) → isTally (entriesOf t) ≡ false → ending t out ≡ endOutcome (refused 23) out
+unfolding ending
+no-tally-no-end t out h = rw h
+
+-- the calls that lines are
+abbrev pub withCall : ℕ → Option Read → List Call → List Call
+withCall floor none h = h
+withCall floor (some r) h = record { read = r; floor = floor } ∷ h
+
+abbrev pub callsOf : ℕ → List (List ℕ) → List Call
+callsOf floor [] = []
+callsOf floor (l ∷ ls) = withCall floor (readOf l) (callsOf floor ls)
+
+one-said : (floor : ℕ) (t : Tally) (x : Option Read) (h : List Call) → after (tallyAfter floor t x) h ≡ after t (withCall floor x h)
+one-said floor t none h = refl
+one-said floor t (some r) h = refl
+
+-- the tally at the end is what that history leaves
+pub turns-after : {floor n : ℕ} {ls : List (List ℕ)} {x : List ℕ} {t g : Tally} → Turns floor n ls t x g → g ≡ after t (callsOf floor ls)
+turns-after log.ended = refl
+turns-after {floor} (more {l = l} {ls = ls} {t = t} a p) =
+    turns-after p ∙ ap (λ (y : Option Read). after (tallyAfter floor t y) (callsOf floor ls)) (read-one a (read-says l)) ∙ one-said floor t (readOf l) (callsOf floor ls)
+
+-- so a tag is washed there exactly when at least three passes of it counted
+pub turns-washed : {floor n : ℕ} {ls : List (List ℕ)} {x : List ℕ} {g : Tally} (tag : ℕ) → Turns floor n ls emptyTally x g
+    → washed tag g ≡ leb 3 (countedOf tag emptyTally (callsOf floor ls))
+turns-washed {floor} {ls = ls} tag p = ap (washed tag) (turns-after p) ∙ washed-exactly emptyTally empty-is tag (callsOf floor ls)

@@ -1,14 +1,14 @@
 -- What the code reads is what the text says, and a text says one thing. Assumes nothing.
 use Prim.Native.Nat.{ℕ, zero, suc, _+_, _-_, _*_, _/_, _%_, _^_, _≤_, _<_}
-use native.Mathlib.Nat.{mod-eq-of-lt, mod-lt, pow-suc}
+use native.Mathlib.Nat.{mod-eq-of-lt, pow-suc}
 use native.Mathlib.Decide.{decLt}
 use native.Mathlib.Omega.{arith}
-use mathlib.Core.Path.{_≡_, refl, sym, ap, subst, _∙_}
+use mathlib.Core.Path.{_≡_, refl, sym, ap, _∙_}
 use mathlib.Core.Bool.{Bool, true, false, cond}
-use mathlib.Core.List.{List, [], _∷_, _++_, append-assoc}
+use mathlib.Core.List.{List, [], _∷_, _++_, append-assoc, append-nil}
 use mathlib.Core.Option.{Option, none, some}
-use lib.Dec.{ltb, leb, eqb}
-use lib.ListN.{length, take, drop, length-append}
+use lib.Dec.{ltb, leb}
+use lib.ListN.{length, drop}
 use lib.Seq.{take-length, take-append-seam}
 use borrow.Author.Tests.{lt-ltb, le-ltb, ne-eqb, le-leb, leb-true}
 use Rattle.signs.specs.Text.{bytes}
@@ -17,10 +17,10 @@ use Rattle.signs.specs.Bytes.{spaceByte, All, more}
 use Rattle.signs.specs.Bytes as class
 use Rattle.rules.specs.Numbers.{wordSize}
 use Rattle.text.specs.Same.{sameText, text-same, same-text}
-use Rattle.text.specs.DigitLaws.{one-digit, more-digits, hex-length}
+use Rattle.text.specs.DigitLaws.{one-digit, more-digits}
 use Rattle.tally.specs.declared.Read.{Read}
 use Rattle.passlog.specs.Log.{Says, is-of, is-none, SaysFloor, FloorFits, floorDigits, floorText, wordDigits, readText, ReadFits, SaysRead}
-use Rattle.passlog.specs.Spelling.{lengthTo, before, behind, digitOf, numberFrom, numberOf, wordAt, restOf, guessOf, floorGuess, spelled, readOf, floorOf}
+use Rattle.passlog.specs.Spelling.{lengthTo, digitOf, numberFrom, numberOf, wordAt, restOf, guessOf, floorGuess, spelled, readOf, floorOf}
 
 -- ==== the digits of numbers
 
@@ -93,20 +93,21 @@ unfolding hex
 hex-above zero x = class.none
 hex-above (suc k) x = all-append (hex k (x / 16)) (hexDigit (x % 16) ∷ []) (hex-above k (x / 16)) (more (hex-digit-above (x % 16)) class.none)
 
-module _ (w s : List ℕ) where
-  word-length : All above w → lengthTo spaceByte (w ++ spaceByte ∷ s) ≡ length w
+past-digits : (w s : List ℕ) → All above w → lengthTo spaceByte (w ++ s) ≡ length w + lengthTo spaceByte s
+unfolding lengthTo
+past-digits [] s a = omega arith
+past-digits (b ∷ w) s (more e a) = rw (ne-eqb b spaceByte (λ k. omega (arith, leb-true zeroByte b e)), past-digits w s a) (omega arith)
+
+module _ (w s : List ℕ) (a : All above w) where
+  word-length : lengthTo spaceByte (w ++ spaceByte ∷ s) ≡ length w
   unfolding lengthTo
-  word-length a = go w a
-    where
-      go : (v : List ℕ) → All above v → lengthTo spaceByte (v ++ spaceByte ∷ s) ≡ length v
-      go [] a = refl
-      go (b ∷ v) (more e a) = rw (ne-eqb b spaceByte (λ k. omega (arith, leb-true zeroByte b e))) (ap suc (go v a))
+  word-length = past-digits w (spaceByte ∷ s) a ∙ omega arith
 
-  word-first : All above w → wordAt (w ++ spaceByte ∷ s) ≡ w
-  word-first a = rw (word-length a) (take-append-seam w (spaceByte ∷ s))
+  word-first : wordAt (w ++ spaceByte ∷ s) ≡ w
+  word-first = rw word-length (take-append-seam w (spaceByte ∷ s))
 
-  word-rest : All above w → restOf (w ++ spaceByte ∷ s) ≡ s
-  word-rest a = rw (word-length a) (go w)
+  word-rest : restOf (w ++ spaceByte ∷ s) ≡ s
+  word-rest = rw word-length (go w)
     where
       go : (v : List ℕ) → drop (suc (length v)) (v ++ spaceByte ∷ s) ≡ s
       go [] = refl
@@ -114,11 +115,9 @@ module _ (w s : List ℕ) where
 
 word-last : (w : List ℕ) → All above w → wordAt w ≡ w
 unfolding lengthTo
-word-last w a = rw (go w a) (take-length w)
-  where
-    go : (v : List ℕ) → All above v → lengthTo spaceByte v ≡ length v
-    go [] a = refl
-    go (b ∷ v) (more e a) = rw (ne-eqb b spaceByte (λ k. omega (arith, leb-true zeroByte b e))) (ap suc (go v a))
+word-last w a =
+    let e : lengthTo spaceByte w ≡ length w = ap (lengthTo spaceByte) (sym (append-nil w)) ∙ past-digits w [] a ∙ omega arith in
+    rw e (take-length w)
 
 -- ==== a read's own text is read back
 
@@ -238,9 +237,9 @@ floor-says l = spelled-says FloorFits floorText floorGuess floor-fits floor-back
 pub floor-one : {l : List ℕ} {x y : Option ℕ} → SaysFloor l x → SaysFloor l y → x ≡ y
 floor-one a b = spelled-one FloorFits floorText floorGuess floor-fits floor-back a b
 
--- each read has its line, and no line is two reads'
-pub read-written : (r : Read) → ReadFits r → SaysRead (readText r) (some r)
-read-written r f = is-of f refl
+-- each read has its line (the bounds stand here as the issue has them, so that they do not hang on a name), and no line is two reads'
+pub read-written : (r : Read) → r .tag ≤ 4294967295 → r .pass ≤ 4294967295 → r .first < 2 ^ 32 → r .second < 2 ^ 32 → SaysRead (readText r) (some r)
+read-written r a b c d = is-of {x = r} (record { tag = omega arith; pass = omega arith; first = omega arith; second = omega arith }) refl
 
 pub texts-one : (r s : Read) → ReadFits r → ReadFits s → readText r ≡ readText s → r ≡ s
 texts-one r s f g e = sym (guess-back r f) ∙ ap guessOf e ∙ guess-back s g

@@ -5,26 +5,25 @@ use native.Mathlib.Numerals.{add-one}
 use native.Mathlib.Decide.{decLt}
 use native.Mathlib.Omega.{arith}
 use mathlib.Core.Path.{_≡_, refl, sym, ap, subst, _∙_}
-use mathlib.Core.Bool.{Bool, true, false, not, _&&_, cond}
+use mathlib.Core.Bool.{Bool, true, false, not, cond}
 use mathlib.Core.List.{List, [], _∷_, _++_, append-assoc, append-nil}
 use mathlib.Core.Option.{Option, none, some}
-use lib.Dec.{ltb, leb, eqb}
+use lib.Dec.{ltb, eqb}
 use lib.ListN.{length, take, drop, getD, length-append, drop-of-length-le}
 use lib.Seq.{drop-cons, take-suc, take-append-seam}
-use borrow.Author.Tests.{ltb-true, ltb-false, leb-true, leb-false, lt-ltb, le-ltb, eq-eqb, ne-eqb}
+use borrow.Author.Tests.{ltb-true, lt-ltb, le-ltb, eq-eqb, ne-eqb}
 use Rattle.signs.specs.Text.{bytes}
-use Rattle.signs.specs.Digits.{zeroByte, decimal}
+use Rattle.signs.specs.Digits.{decimal}
 use Rattle.signs.specs.Bytes.{lineFeed}
 use Rattle.rules.specs.Numbers.{wordSize}
-use Rattle.rules.specs.Writing.{front}
 use Rattle.text.specs.Buffer.{Buffer, buffer, Puts, _then_, same, whole-front}
-use Rattle.text.specs.DigitLaws.{one-digit, more-digits, mostDigits, decimal-short, hex-length}
-use Rattle.report.specs.Listing.{listingLimit, tooLongText, refusedText}
+use Rattle.text.specs.DigitLaws.{one-digit, more-digits, decimal-short, hex-length}
+use Rattle.report.specs.Listing.{listingLimit, tooLongText}
 use Rattle.report.specs.Chunks.{nextNumber}
 use Rattle.tally.specs.declared.Entry.{Entry}
 use Rattle.tally.specs.declared.Read.{Read}
 use Rattle.tally.specs.declared.Tally.{Tally}
-use Rattle.tally.specs.Votes.{antennas, voteOf}
+use Rattle.tally.specs.Votes.{voteOf}
 use Rattle.tally.specs.VoteLaws.{vote-le}
 use Rattle.tally.specs.Passes.{Answer, counted, duplicate, weak, refused, Outcome, gives, counts, mostTags, washedCount, enoughVotes, nextCount, standing, isTally, judged, called}
 use Rattle.tally.specs.Lent as lent
@@ -32,9 +31,9 @@ use Rattle.tally.specs.PlaceLaws.{entries-taken}
 use Rattle.tally.specs.CallLaws.{tally-small}
 use Rattle.tally.specs.declared.Passed.{Passed}
 use Rattle.tally.specs.Lent.{noEntry, entriesOf, callOf}
-use Rattle.passlog.specs.Log.{floorDigits, floorText, wordDigits, readText, ReadFits, SaysRead, answerText, lineAnswer, tallyAfter, loggedLine, washedText, entryText, endText}
+use Rattle.passlog.specs.Log.{floorDigits, floorText, wordDigits, readText, ReadFits, SaysRead, answerText, lineAnswer, loggedLine, washedText, entryText, endText}
 use Rattle.passlog.specs.Spelling.{lengthTo, digitOf, numberFrom}
-use Rattle.passlog.specs.Steps.{readRoom, lineAt, nextPlace, PutsAnswer, PutsLine, answerRoom, lineRoom, Step, ended, no-room, too-long, one-line, Logs, entryRoom, endRoom, endOutcome, printed-bytes, ending}
+use Rattle.passlog.specs.Steps.{readRoom, lineAt, nextPlace, PutsAnswer, PutsLine, answerRoom, lineRoom, ended, no-room, too-long, one-line, Logs, entryRoom, endRoom, endOutcome, printed-bytes, ending}
 use Rattle.passlog.specs.Steps as steps
 
 -- ==== where a byte stands
@@ -176,10 +175,10 @@ said-read {floor} {t} {g} {l} {r} {x} {y} a s e p = record {
 pub said-other : {floor : ℕ} {t : Tally} {l : List ℕ} {x y : Buffer} → SaysRead l none → Puts x (bytes "not a read") y → PutsAnswer floor t l t x y
 said-other s p = record { said = none; says = s; puts = p; tally = refl }
 
-pub line-put : {floor n : ℕ} {t g : Tally} {l : List ℕ} {x y z w v : Buffer}
+pub line-put : {floor : ℕ} {t g : Tally} {l : List ℕ} {x y z w v : Buffer} (n : ℕ)
     → Puts x (decimal n) y → Puts y (bytes " ") z → PutsAnswer floor t l g z w → Puts w (lineFeed ∷ []) v → PutsLine floor n t l g x v
 unfolding loggedLine
-line-put a b p d = record { said = p .said; says = p .says; puts = ((a then b) then p .puts) then d; tally = p .tally }
+line-put n a b p d = record { said = p .said; says = p .says; puts = ((a then b) then p .puts) then d; tally = p .tally }
 
 -- ==== one call
 

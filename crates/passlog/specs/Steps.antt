@@ -1,8 +1,8 @@
 -- The code's own way through the input: one line at a call, which goes on where the one before it stopped; then the end.
-use Prim.Native.Nat.{ℕ, suc, _+_, _*_, _≤_, _<_}
+use Prim.Native.Nat.{ℕ, _+_, _*_, _≤_, _<_}
 use mathlib.Core.Path.{_≡_, refl}
 use mathlib.Core.Bool.{not, cond}
-use mathlib.Core.List.{List, [], _∷_, _++_}
+use mathlib.Core.List.{List, [], _++_}
 use mathlib.Core.Option.{Option, none, some}
 use lib.ListN.{length, drop}
 use lib.Dec.{ltb}
@@ -54,19 +54,20 @@ lineAt s from = before lineFeed (drop from s)
 abbrev pub nextPlace : List ℕ → ℕ → ℕ
 nextPlace s from = from + lengthTo lineFeed (drop from s) + 1
 
--- a line l on a tally t, which is g then: its answer is put, behind x, to y
-pub record PutsAnswer (floor : ℕ) (t : Tally) (l : List ℕ) (g : Tally) (x y : Buffer) : Type 0 where
+-- a line l on a tally t, which is g then: the text that goes by what the line says is put, behind x, to y
+pub record PutsSaid (textOf : Option Read → List ℕ) (floor : ℕ) (t : Tally) (l : List ℕ) (g : Tally) (x y : Buffer) : Type 0 where
   pub said : Option Read
   pub says : SaysRead l said
-  pub puts : Puts x (lineAnswer floor t said) y
+  pub puts : Puts x (textOf said) y
   pub tally : g ≡ tallyAfter floor t said
 
--- and so is the text of line number n
-pub record PutsLine (floor n : ℕ) (t : Tally) (l : List ℕ) (g : Tally) (x y : Buffer) : Type 0 where
-  pub said : Option Read
-  pub says : SaysRead l said
-  pub puts : Puts x (loggedLine floor n t said) y
-  pub tally : g ≡ tallyAfter floor t said
+-- its answer
+abbrev pub PutsAnswer : ℕ → Tally → List ℕ → Tally → Buffer → Buffer → Type 0
+PutsAnswer floor t l g x y = PutsSaid (lineAnswer floor t) floor t l g x y
+
+-- and the text of line number n
+abbrev pub PutsLine : ℕ → ℕ → Tally → List ℕ → Tally → Buffer → Buffer → Type 0
+PutsLine floor n t l g x y = PutsSaid (loggedLine floor n t) floor t l g x y
 
 -- as many bytes as an answer has at most: `not a read`, `refused 19`; and as a line's text has, with its number, a space and a line feed
 abbrev pub answerRoom : ℕ

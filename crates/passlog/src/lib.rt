@@ -191,7 +191,7 @@ pub fn read_of(line: &[u8]) -> Line
     Line::Other
 }
 
-// So is a floor.
+// A word is a floor where it is the text of the floor that it would be.
 pub fn floor_of(word: &[u8]) -> Floor
     ensures { λ r. ⌜ SaysFloor (now (word .entry)) (floorSaid r) ⌝ }
 {

@@ -88,7 +88,7 @@ judged l r (some e) =
     cond (eqb (r .pass) (e .last)) (gives duplicate l)
     (cond (ltb (r .pass) (e .last)) (gives (refused 19) l)
     (counts l r (nextCount (e .count))))
--- 20 new tag with 32 held; a new tag's becomes its last and counts one
+-- a new tag's becomes its last and counts one; 20 new tag with 32 held
 judged l r none = cond (ltb (length l) mostTags) (counts l r 1) (gives (refused 20) l)
 
 -- first 23; then under five votes: answered weak, nothing changed; 19 and 20 after the weak answer

@@ -1,5 +1,5 @@
 -- What one call does to the entries of a tally. Assumes nothing.
-use Prim.Native.Nat.{ℕ, suc, _+_, _≤_, _<_, min}
+use Prim.Native.Nat.{ℕ, suc, _+_, _≤_, min}
 use native.Mathlib.Omega.{arith}
 use mathlib.Core.Path.{_≡_, refl, sym, ap, _∙_}
 use mathlib.Core.Bool.{Bool, true, false, not, _&&_, _||_, cond}
@@ -138,7 +138,7 @@ is23 (weak v) = false
 is23 (refused n) = eqb n 23
 
 -- what a call on a tally does
-pub record Good (l : List Entry) (r : Read) (o : Outcome) : Type 0 where
+pub record CallDoes (l : List Entry) (r : Read) (o : Outcome) : Type 0 where
   -- it leaves a tally and is not refused 23
   pub tally : isTally (o .tally) ≡ true
   pub not23 : is23 (o .answer) ≡ false
@@ -152,7 +152,7 @@ not-counted : (a : Answer) (c : ℕ) → isCounted a ≡ false → a ≡ counted
 not-counted a c h e = clash (sym h ∙ ap isCounted e)
 
 module _ (l : List Entry) (r : Read) (ok : isTally l ≡ true) where
-  kept : (a : Answer) → isCounted a ≡ false → is23 a ≡ false → Good l r (gives a l)
+  kept : (a : Answer) → isCounted a ≡ false → is23 a ≡ false → CallDoes l r (gives a l)
   kept a q n = record {
     tally = ok;
     not23 = n;
@@ -161,7 +161,7 @@ module _ (l : List Entry) (r : Read) (ok : isTally l ≡ true) where
     others = λ tag d. refl;
   }
 
-  noting : (c : ℕ) → leastCount ≤ c → c ≡ min washedCount (countIn (standing (r .tag) l) + 1) → length (noted (entry (r .tag) (r .pass) c) l) ≤ mostTags → Good l r (counts l r c)
+  noting : (c : ℕ) → leastCount ≤ c → c ≡ min washedCount (countIn (standing (r .tag) l) + 1) → length (noted (entry (r .tag) (r .pass) c) l) ≤ mostTags → CallDoes l r (counts l r c)
   unfolding isTally
   noting c p e s = record {
     tally = rw (le-leb (length (noted (entry (r .tag) (r .pass) c) l)) mostTags s) (noted-fits (entry (r .tag) (r .pass) c) l fit (tally-entries l ok));
@@ -186,31 +186,31 @@ module _ (l : List Entry) (r : Read) (ok : isTally l ≡ true) where
       go true q = omega (arith, ltb-true c washedCount q)
       go false q = omega (arith, ltb-false c washedCount q)
 
-  judged-good : (s : Option Entry) → standing (r .tag) l ≡ s → Good l r (judged l r s)
-  judged-good none h = go (ltb (length l) mostTags) refl
+  judged-does : (s : Option Entry) → standing (r .tag) l ≡ s → CallDoes l r (judged l r s)
+  judged-does none h = go (ltb (length l) mostTags) refl
     where
-      go : (t : Bool) → ltb (length l) mostTags ≡ t → Good l r (cond t (counts l r 1) (gives (refused 20) l))
+      go : (t : Bool) → ltb (length l) mostTags ≡ t → CallDoes l r (cond t (counts l r 1) (gives (refused 20) l))
       go true q = noting 1 (omega arith) (rw h (omega arith)) (omega (arith, one-more (entry (r .tag) (r .pass) 1) l, ltb-true (length l) mostTags q))
       go false q = kept (refused 20) refl refl
-  judged-good (some e) h = go (eqb (r .pass) (e .last)) (ltb (r .pass) (e .last))
+  judged-does (some e) h = go (eqb (r .pass) (e .last)) (ltb (r .pass) (e .last))
     where
       small : (leastCount ≤ e .count) × (e .count ≤ washedCount)
       small = count-small e (standing-fits (r .tag) e l (tally-entries l ok) h)
 
-      go : (t u : Bool) → Good l r (cond t (gives duplicate l) (cond u (gives (refused 19) l) (counts l r (nextCount (e .count)))))
+      go : (t u : Bool) → CallDoes l r (cond t (gives duplicate l) (cond u (gives (refused 19) l) (counts l r (nextCount (e .count)))))
       go true u = kept duplicate refl refl
       go false true = kept (refused 19) refl refl
       go false false =
           noting (nextCount (e .count)) (rw (next-is (e .count) (small .1)) (omega arith)) (rw h (next-is (e .count) (small .1)))
           (rw (same-length (entry (r .tag) (r .pass) (nextCount (e .count))) e l h) (tally-length l ok))
 
-  pub call-good : (floor : ℕ) → Good l r (called l r floor)
+  pub call-does : (floor : ℕ) → CallDoes l r (called l r floor)
   unfolding called
-  call-good floor = rw ok (go (ltb (voteOf floor r) enoughVotes))
+  call-does floor = rw ok (go (ltb (voteOf floor r) enoughVotes))
     where
-      go : (t : Bool) → Good l r (cond t (gives (weak (voteOf floor r)) l) (judged l r (standing (r .tag) l)))
+      go : (t : Bool) → CallDoes l r (cond t (gives (weak (voteOf floor r)) l) (judged l r (standing (r .tag) l)))
       go true = kept (weak (voteOf floor r)) refl refl
-      go false = judged-good (standing (r .tag) l) refl
+      go false = judged-does (standing (r .tag) l) refl
 
 -- ==== weak, duplicate or refused: nothing changed, whatever was lent
 

@@ -2,8 +2,8 @@
 use Prim.Native.Nat.{ℕ, zero, suc, _+_, _<_, _≤_}
 use native.Mathlib.Nat.{mod-eq-of-lt}
 use native.Mathlib.Omega.{arith}
-use mathlib.Core.Path.{_≡_, refl, ap, _∙_}
-use mathlib.Core.Bool.{Bool, true, false, _&&_}
+use mathlib.Core.Path.{_≡_, refl, _∙_}
+use mathlib.Core.Bool.{Bool, true, false}
 use lib.Dec.{leb}
 use borrow.Author.Tests.{le-leb}
 use Rattle.signs.specs.Text.{bytes}
@@ -15,11 +15,10 @@ use Rattle.record.specs.declared.Record.{Record}
 use Rattle.record.specs.declared.Target.the-variants.{Sm30}
 use Rattle.record.specs.Registers.{Files, r, at}
 use Rattle.record.specs.Refusals.{isLegal, Legal}
-use Rattle.rules.specs.Numbers.{laneSize, lanes, partAt, joined, exactOf, bit, holdsZ}
-use Rattle.rules.specs.Execution.{count, maskAt, laneHolds, lanesOf}
+use Rattle.rules.specs.Numbers.{laneSize, lanes, partAt, exactOf, bit, holdsZ}
+use Rattle.rules.specs.Execution.{count, laneHolds, lanesOf}
 use Rattle.rules.specs.Executing.{Admitted, guardHolds, run}
 use Rattle.rules.specs.StandardLine.{standard}
-use Rattle.rules.specs.Targets.{Allowed}
 use Rattle.laws.specs.ExecutionLaws.{part-joined, size-pos, add-counts}
 use Rattle.laws.specs.RunLaws.{vset-lanes-hold}
 use Rattle.laws.specs.TargetLaws.{newest-allows}

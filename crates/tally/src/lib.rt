@@ -24,7 +24,7 @@ pub struct Entry {
 // The first `len` entries are held, in the order in which their tags came. Not every value of this type is a tally: a call refuses the others.
 pub struct Tally {
     pub len: usize,
-    pub entries: [Entry; 32],
+    pub entries: [Entry; TAGS],
 }
 
 pub struct Read {
@@ -98,7 +98,7 @@ pub fn votes(r: Read, floor: u8) -> u32
 // ---- what a tally holds
 
 // Where the tag stands from place `from` on among the first n entries; n where it does not.
-fn place(entries: [Entry; 32], from: usize, n: usize, tag: u32) -> usize
+fn place(entries: [Entry; TAGS], from: usize, n: usize, tag: u32) -> usize
     requires { ⌜ (from ≤ n) × (n ≤ mostTags) ⌝ }
     ensures { λ r. ⌜ r ≡ from + placeOf tag (drop from (take n entries)) ⌝ }
 {
@@ -266,7 +266,7 @@ pub fn empty() -> Tally
             tag: 0,
             last: 0,
             count: 0,
-        }; 32],
+        }; TAGS],
     }
 }
 
@@ -279,7 +279,7 @@ pub fn pass(t: &mut Tally, r: Read, floor: u8) -> Passed
     done.answer
 }
 
-// Lends the tally to `pass` and takes it back, for callers that have values alone.
+// Lends the tally to `pass` and takes it back: the one function that makes a `&mut` of a struct, so that its callers need no proof by hand.
 pub fn lend(t: Tally, r: Read, floor: u8) -> Updated
     ensures { λ x. ⌜ outcome (answerOf (x .answer)) (x .tally) ≡ callOf t r floor ⌝ }
 {

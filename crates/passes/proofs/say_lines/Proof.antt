@@ -9,11 +9,6 @@ use Rattle.passlog.specs.Steps.{lineRoom}
 use Rattle.passlog.specs.OutputLaws.{Called, none-called, called, call-goes-on, told}
 use Rattle.passes.proofs.say_lines.Statement.{statement}
 use Rattle.passes.proofs.say_lines.Tie as tie
-use Rattle.passes.proofs.say_lines.Reads as reads
-use Rattle.passes.proofs.say_lines.Lts as lts
-use Rattle.passes.proofs.say_first.Reads as say-first-reads
-use Rattle.passlog.proofs.log_line.Reads as log-line-reads
-use Rattle.tally.proofs.empty.Reads as empty-reads
 
 abbrev IsFalse : Bool → Type 0
 IsFalse false = Unit {0}

@@ -2,8 +2,6 @@ use borrow.Author.Tests.{lt-ltb, le-ltb}
 use borrow.Author.Needs.{needs}
 use Rattle.passlog.proofs.digit.Statement.{statement}
 use Rattle.passlog.proofs.digit.Tie as tie
-use Rattle.passlog.proofs.digit.Reads as reads
-use Rattle.passlog.proofs.digit.Lts as lts
 
 returns : tie.Need-returns
 returns c = simp (lt-ltb _ _ (c .if1 .taken))

@@ -10,10 +10,6 @@ use Rattle.tally.proofs.Laws.{tally-full}
 use Rattle.passlog.specs.StepLaws.{Listed, none-listed, one-listed, end-23, end-no-room, end-printed}
 use Rattle.passlog.proofs.end.Statement.{statement}
 use Rattle.passlog.proofs.end.Tie as tie
-use Rattle.passlog.proofs.end.Reads as reads
-use Rattle.passlog.proofs.end.Lts as lts
-use Rattle.passlog.proofs.put_entry.Reads as put-entry-reads
-use Rattle.tally.proofs.is_tally.Reads as is-tally-reads
 
 abbrev Inv-loop : tie.InvT-loop
 Inv-loop out₀ n entries used₀ i₀ out used i = (i ≤ n) × (n ≤ mostTags) × (length entries ≡ mostTags) × (length out ≡ length out₀) × Listed entries out₀ i used out

@@ -10,11 +10,6 @@ use Rattle.passlog.specs.StepLaws.{floor-short, text-there, text-inside,
 use borrow.Author.Needs.{needs}
 use Rattle.passlog.proofs.floor_of.Statement.{statement}
 use Rattle.passlog.proofs.floor_of.Tie as tie
-use Rattle.passlog.proofs.floor_of.Reads as reads
-use Rattle.passlog.proofs.floor_of.Lts as lts
-use Rattle.passlog.proofs.number.Reads as number-reads
-use Rattle.text.proofs.put_hex.Reads as put-hex-reads
-use Rattle.text.proofs.same.Reads as same-reads
 
 number-requires : tie.Need-number-requires
 number-requires c κs = search needs
@@ -43,7 +38,6 @@ same-requires c κs = search needs
 returns : tie.Need-returns
 unfolding floorGuess
 returns c =
-    let l = now (c .before .before .before .before .before .before .before .before .args .word) in
     let g = ap (λ (x : ℕ). x % 16 ^ floorDigits) (c .before .before .before .before .before .before .number .ensures) in
     let there = text-there (c .before .before .before .before .put-hex .ensures) (floor-short _) in
     rw g (floor-yes (now (c .before .before .before .before .before .before .before .before .args .word)) (ap (λ (x : ℕ). sameText (floorText x) (now (c .before .before .before .before .before .before .before .before .args .word))) (sym g) ∙ ap (λ (l : List ℕ). sameText l (now (c .before .before .before .before .before .before .before .before .args .word))) (sym there) ∙ sym (c .before .same .ensures) ∙ c .if1 .taken))

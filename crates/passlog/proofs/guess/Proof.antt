@@ -3,11 +3,6 @@ use Rattle.passlog.specs.Spelling.{numberOf, wordAt, restOf, guessOf}
 use borrow.Author.Needs.{needs}
 use Rattle.passlog.proofs.guess.Statement.{statement}
 use Rattle.passlog.proofs.guess.Tie as tie
-use Rattle.passlog.proofs.guess.Reads as reads
-use Rattle.passlog.proofs.guess.Lts as lts
-use Rattle.passlog.proofs.number.Reads as number-reads
-use Rattle.passlog.proofs.rest.Reads as rest-reads
-use Rattle.passlog.proofs.word.Reads as word-reads
 
 word-requires : tie.Need-word-requires
 word-requires c κs = search needs

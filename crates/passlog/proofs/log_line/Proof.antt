@@ -2,10 +2,6 @@ use Rattle.passlog.specs.StepLaws.{none-left, no-room-there, over-limit}
 use borrow.Author.Needs.{needs}
 use Rattle.passlog.proofs.log_line.Statement.{statement}
 use Rattle.passlog.proofs.log_line.Tie as tie
-use Rattle.passlog.proofs.log_line.Reads as reads
-use Rattle.passlog.proofs.log_line.Lts as lts
-use Rattle.passlog.proofs.log_one.Reads as log-one-reads
-use Rattle.text.proofs.put.Reads as put-reads
 
 returns : tie.Need-returns
 returns c = none-left (c .if1 .taken)

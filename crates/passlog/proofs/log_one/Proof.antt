@@ -10,11 +10,6 @@ use Rattle.passlog.specs.StepLaws.{line-logged}
 use borrow.Author.Needs.{needs}
 use Rattle.passlog.proofs.log_one.Statement.{statement}
 use Rattle.passlog.proofs.log_one.Tie as tie
-use Rattle.passlog.proofs.log_one.Reads as reads
-use Rattle.passlog.proofs.log_one.Lts as lts
-use Rattle.passlog.proofs.put_line.Reads as put-line-reads
-use Rattle.passlog.proofs.until.Reads as until-reads
-use Rattle.std.proofs.num.wrapping_add_u64.Reads as wrapping-add-u64-reads
 
 sub-until : tie.Need-sub-until
 sub-until c = search needs

@@ -6,9 +6,6 @@ use Rattle.passlog.specs.Spelling.{numberFrom}
 use Rattle.passlog.specs.StepLaws.{number-next, number-end}
 use Rattle.passlog.proofs.number.Statement.{statement}
 use Rattle.passlog.proofs.number.Tie as tie
-use Rattle.passlog.proofs.number.Reads as reads
-use Rattle.passlog.proofs.number.Lts as lts
-use Rattle.passlog.proofs.with_digit.Reads as with-digit-reads
 
 abbrev Inv-loop : tie.InvT-loop
 Inv-loop s base v₀ i₀ v i = (i ≤ length s) × (numberFrom base v (drop i s) ≡ numberFrom base 0 s)

@@ -1,10 +1,6 @@
 use borrow.Author.Needs.{needs}
 use Rattle.passlog.proofs.put_answer.Statement.{statement}
 use Rattle.passlog.proofs.put_answer.Tie as tie
-use Rattle.passlog.proofs.put_answer.Reads as reads
-use Rattle.passlog.proofs.put_answer.Lts as lts
-use Rattle.passlog.proofs.put_numbered.Reads as put-numbered-reads
-use Rattle.text.proofs.put.Reads as put-reads
 
 enum-known-a : tie.Need-enum-known-a
 enum-known-a c = search needs

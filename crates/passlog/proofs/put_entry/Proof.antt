@@ -3,12 +3,6 @@ use Rattle.passlog.specs.StepLaws.{entry-short}
 use borrow.Author.Needs.{needs}
 use Rattle.passlog.proofs.put_entry.Statement.{statement}
 use Rattle.passlog.proofs.put_entry.Tie as tie
-use Rattle.passlog.proofs.put_entry.Reads as reads
-use Rattle.passlog.proofs.put_entry.Lts as lts
-use Rattle.passlog.proofs.put_two.Reads as put-two-reads
-use Rattle.passlog.proofs.put_washed.Reads as put-washed-reads
-use Rattle.text.proofs.push.Reads as push-reads
-use Rattle.text.proofs.put_decimal.Reads as put-decimal-reads
 
 put-two-requires : tie.Need-put-two-requires
 put-two-requires c κs = search needs

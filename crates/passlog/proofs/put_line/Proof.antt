@@ -2,11 +2,6 @@ use Rattle.passlog.specs.StepLaws.{line-put}
 use borrow.Author.Needs.{needs}
 use Rattle.passlog.proofs.put_line.Statement.{statement}
 use Rattle.passlog.proofs.put_line.Tie as tie
-use Rattle.passlog.proofs.put_line.Reads as reads
-use Rattle.passlog.proofs.put_line.Lts as lts
-use Rattle.passlog.proofs.put_said.Reads as put-said-reads
-use Rattle.text.proofs.push.Reads as push-reads
-use Rattle.text.proofs.put_decimal.Reads as put-decimal-reads
 
 put-decimal-requires : tie.Need-put-decimal-requires
 put-decimal-requires c κs = search needs
@@ -24,7 +19,7 @@ same-length : tie.Need-same-length
 same-length c = search needs
 
 returns : tie.Need-returns
-returns c = line-put (c .before .before .before .before .before .before .before .before .before .before .before .before .before .before .before .put-decimal .ensures) (c .before .before .before .before .before .before .before .before .before .before .before .push .ensures) (c .before .before .before .before .before .before .before .put-said .ensures) (c .before .before .push2 .ensures)
+returns c = line-put (c .before .before .before .before .before .before .before .before .before .before .before .before .before .before .before .before .before .before .before .args .number) (c .before .before .before .before .before .before .before .before .before .before .before .before .before .before .before .put-decimal .ensures) (c .before .before .before .before .before .before .before .before .before .before .before .push .ensures) (c .before .before .before .before .before .before .before .put-said .ensures) (c .before .before .push2 .ensures)
 
 pub put-line-spec : {M : Type 1} → statement M
 put-line-spec =

@@ -2,10 +2,6 @@ use Rattle.text.specs.Buffer.{_then_}
 use borrow.Author.Needs.{needs}
 use Rattle.passlog.proofs.put_numbered.Statement.{statement}
 use Rattle.passlog.proofs.put_numbered.Tie as tie
-use Rattle.passlog.proofs.put_numbered.Reads as reads
-use Rattle.passlog.proofs.put_numbered.Lts as lts
-use Rattle.text.proofs.put.Reads as put-reads
-use Rattle.text.proofs.put_decimal.Reads as put-decimal-reads
 
 put-requires : tie.Need-put-requires
 put-requires c κs = search needs

@@ -2,11 +2,6 @@ use Rattle.text.specs.Buffer.{_then_}
 use borrow.Author.Needs.{needs}
 use Rattle.passlog.proofs.put_read.Statement.{statement}
 use Rattle.passlog.proofs.put_read.Tie as tie
-use Rattle.passlog.proofs.put_read.Reads as reads
-use Rattle.passlog.proofs.put_read.Lts as lts
-use Rattle.passlog.proofs.put_two.Reads as put-two-reads
-use Rattle.text.proofs.push.Reads as push-reads
-use Rattle.text.proofs.put_hex.Reads as put-hex-reads
 
 put-two-requires : tie.Need-put-two-requires
 put-two-requires c κs = search needs

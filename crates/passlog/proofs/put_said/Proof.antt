@@ -2,12 +2,6 @@ use Rattle.passlog.specs.StepLaws.{said-read, said-other}
 use borrow.Author.Needs.{needs}
 use Rattle.passlog.proofs.put_said.Statement.{statement}
 use Rattle.passlog.proofs.put_said.Tie as tie
-use Rattle.passlog.proofs.put_said.Reads as reads
-use Rattle.passlog.proofs.put_said.Lts as lts
-use Rattle.passlog.proofs.put_answer.Reads as put-answer-reads
-use Rattle.passlog.proofs.read_of.Reads as read-of-reads
-use Rattle.tally.proofs.lend.Reads as lend-reads
-use Rattle.text.proofs.put.Reads as put-reads
 
 read-of-requires : tie.Need-read-of-requires
 read-of-requires c κs = search needs

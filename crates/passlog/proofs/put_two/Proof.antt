@@ -2,10 +2,6 @@ use Rattle.text.specs.Buffer.{_then_}
 use borrow.Author.Needs.{needs}
 use Rattle.passlog.proofs.put_two.Statement.{statement}
 use Rattle.passlog.proofs.put_two.Tie as tie
-use Rattle.passlog.proofs.put_two.Reads as reads
-use Rattle.passlog.proofs.put_two.Lts as lts
-use Rattle.text.proofs.push.Reads as push-reads
-use Rattle.text.proofs.put_decimal.Reads as put-decimal-reads
 
 put-decimal-requires : tie.Need-put-decimal-requires
 put-decimal-requires c κs = search needs

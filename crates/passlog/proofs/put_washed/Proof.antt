@@ -3,9 +3,6 @@ use Rattle.text.specs.Buffer.{same}
 use borrow.Author.Needs.{needs}
 use Rattle.passlog.proofs.put_washed.Statement.{statement}
 use Rattle.passlog.proofs.put_washed.Tie as tie
-use Rattle.passlog.proofs.put_washed.Reads as reads
-use Rattle.passlog.proofs.put_washed.Lts as lts
-use Rattle.text.proofs.put.Reads as put-reads
 
 slice-aggregate-put : tie.Need-slice-aggregate-put
 slice-aggregate-put c = search needs

@@ -8,11 +8,6 @@ use Rattle.passlog.specs.StepLaws.{read-short, text-there, text-inside, 
 use borrow.Author.Needs.{needs}
 use Rattle.passlog.proofs.read_of.Statement.{statement}
 use Rattle.passlog.proofs.read_of.Tie as tie
-use Rattle.passlog.proofs.read_of.Reads as reads
-use Rattle.passlog.proofs.read_of.Lts as lts
-use Rattle.passlog.proofs.guess.Reads as guess-reads
-use Rattle.passlog.proofs.put_read.Reads as put-read-reads
-use Rattle.text.proofs.same.Reads as same-reads
 
 guess-requires : tie.Need-guess-requires
 guess-requires c κs = search needs

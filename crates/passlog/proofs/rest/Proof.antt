@@ -8,10 +8,6 @@ use Rattle.passlog.specs.Spelling.{lengthTo}
 use borrow.Author.Needs.{needs}
 use Rattle.passlog.proofs.rest.Statement.{statement}
 use Rattle.passlog.proofs.rest.Tie as tie
-use Rattle.passlog.proofs.rest.Reads as reads
-use Rattle.passlog.proofs.rest.Lts as lts
-use Rattle.passlog.proofs.until.Reads as until-reads
-use Rattle.scan.proofs.rest.Reads as rest-reads
 
 until-requires : tie.Need-until-requires
 until-requires c κs = search needs

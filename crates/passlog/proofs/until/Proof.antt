@@ -7,8 +7,6 @@ use Rattle.passlog.specs.Spelling.{lengthTo}
 use Rattle.passlog.specs.StepLaws.{to-end, to-here, to-next}
 use Rattle.passlog.proofs.until.Statement.{statement}
 use Rattle.passlog.proofs.until.Tie as tie
-use Rattle.passlog.proofs.until.Reads as reads
-use Rattle.passlog.proofs.until.Lts as lts
 
 abbrev Inv-loop : tie.InvT-loop
 Inv-loop s b i₀ i = (i ≤ length s) × (i + lengthTo b (drop i s) ≡ lengthTo b s)

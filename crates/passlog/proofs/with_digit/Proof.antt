@@ -5,9 +5,6 @@ use mathlib.Core.Path.{refl}
 use borrow.Author.Needs.{needs, scaled-fits}
 use Rattle.passlog.proofs.with_digit.Statement.{statement}
 use Rattle.passlog.proofs.with_digit.Tie as tie
-use Rattle.passlog.proofs.with_digit.Reads as reads
-use Rattle.passlog.proofs.with_digit.Lts as lts
-use Rattle.passlog.proofs.digit.Reads as digit-reads
 
 mul-result : tie.Need-mul-result
 mul-result c =

@@ -4,9 +4,6 @@ use denote.Ref.{now}
 use borrow.Author.Needs.{needs}
 use Rattle.passlog.proofs.word.Statement.{statement}
 use Rattle.passlog.proofs.word.Tie as tie
-use Rattle.passlog.proofs.word.Reads as reads
-use Rattle.passlog.proofs.word.Lts as lts
-use Rattle.passlog.proofs.until.Reads as until-reads
 
 until-requires : tie.Need-until-requires
 until-requires c κs = search needs

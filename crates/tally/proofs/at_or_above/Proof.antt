@@ -2,10 +2,6 @@ use mathlib.Core.Path.{refl}
 use borrow.Author.Needs.{needs}
 use Rattle.tally.proofs.at_or_above.Statement.{statement}
 use Rattle.tally.proofs.at_or_above.Tie as tie
-use Rattle.tally.proofs.at_or_above.Reads as reads
-use Rattle.tally.proofs.at_or_above.Lts as lts
-use Rattle.fits.proofs.default_digits.Reads as default-digits-reads
-use Rattle.fits.proofs.full_mask.Reads as full-mask-reads
 
 full-mask-requires : tie.Need-full-mask-requires
 full-mask-requires c κs = search needs

@@ -4,10 +4,6 @@ use Rattle.tally.proofs.Laws.{tally-full}
 use Rattle.tally.specs.CallLaws.{held-duplicate, held-19, held-counted}
 use Rattle.tally.proofs.held_tag.Statement.{statement}
 use Rattle.tally.proofs.held_tag.Tie as tie
-use Rattle.tally.proofs.held_tag.Reads as reads
-use Rattle.tally.proofs.held_tag.Lts as lts
-use Rattle.tally.proofs.next_count.Reads as next-count-reads
-use Rattle.tally.proofs.put.Reads as put-reads
 
 mul-e : tie.Need-mul-e
 mul-e c = search needs

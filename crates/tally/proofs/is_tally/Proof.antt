@@ -1,4 +1,4 @@
-use Prim.Native.Nat.{_+_, _-_, _≤_}
+use Prim.Native.Nat.{_-_, _≤_}
 use mathlib.Core.Path.{_≡_, refl, sym, _∙_}
 use native.Mathlib.Omega.{arith}
 use lib.ListN.{take, drop, length}
@@ -9,10 +9,6 @@ use Rattle.tally.specs.Passes.{entriesFit}
 use Rattle.tally.specs.PlaceLaws.{tally-over, tally-fit, wrong-count, tag-twice, entry-fits, all-fit}
 use Rattle.tally.proofs.is_tally.Statement.{statement}
 use Rattle.tally.proofs.is_tally.Tie as tie
-use Rattle.tally.proofs.is_tally.Reads as reads
-use Rattle.tally.proofs.is_tally.Lts as lts
-use Rattle.tally.proofs.count_fits.Reads as count-fits-reads
-use Rattle.tally.proofs.place.Reads as place-reads
 
 abbrev Inv-loop : tie.InvT-loop
 Inv-loop n entries i₀ i = (i ≤ n) × (entriesFit (drop i (take n entries)) ≡ entriesFit (take n entries))

@@ -1,12 +1,8 @@
-use native.Mathlib.Omega.{arith}
 use borrow.Author.Needs.{needs}
 use Rattle.tally.proofs.Laws.{tally-full}
 use Rattle.tally.specs.CallLaws.{new-20, new-counted}
 use Rattle.tally.proofs.new_tag.Statement.{statement}
 use Rattle.tally.proofs.new_tag.Tie as tie
-use Rattle.tally.proofs.new_tag.Reads as reads
-use Rattle.tally.proofs.new_tag.Lts as lts
-use Rattle.tally.proofs.put.Reads as put-reads
 
 returns : tie.Need-returns
 returns c = new-20 (c .before .args .t) (tally-full (c .before .args .t) _ (c .before .good .0)) (c .before .args .r) (c .before .pre .0) (c .before .pre .1) (c .if1 .taken)

@@ -4,8 +4,6 @@ use borrow.Author.Tests.{le-ltb, lt-ltb}
 use borrow.Author.Needs.{needs}
 use Rattle.tally.proofs.next_count.Statement.{statement}
 use Rattle.tally.proofs.next_count.Tie as tie
-use Rattle.tally.proofs.next_count.Reads as reads
-use Rattle.tally.proofs.next_count.Lts as lts
 
 add-result : tie.Need-add-result
 add-result c = search needs

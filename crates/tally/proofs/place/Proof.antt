@@ -7,8 +7,6 @@ use Rattle.tally.specs.Places.{placeOf}
 use Rattle.tally.specs.PlaceLaws.{from-here, from-next, from-end}
 use Rattle.tally.proofs.place.Statement.{statement}
 use Rattle.tally.proofs.place.Tie as tie
-use Rattle.tally.proofs.place.Reads as reads
-use Rattle.tally.proofs.place.Lts as lts
 
 abbrev Inv-loop : tie.InvT-loop
 Inv-loop from n tag entries i₀ i = (i ≤ n) × (i + placeOf tag (drop i (take n entries)) ≡ from + placeOf tag (drop from (take n entries)))

@@ -2,8 +2,6 @@ use borrow.Author.Tests.{le-ltb, lt-ltb}
 use borrow.Author.Needs.{needs}
 use Rattle.tally.proofs.put.Statement.{statement}
 use Rattle.tally.proofs.put.Tie as tie
-use Rattle.tally.proofs.put.Reads as reads
-use Rattle.tally.proofs.put.Lts as lts
 
 mul-entries : tie.Need-mul-entries
 mul-entries c = search needs

@@ -9,11 +9,6 @@ use Rattle.tally.specs.CallLaws.{stands, stands-not}
 use Rattle.tally.proofs.Laws.{tally-full}
 use Rattle.tally.proofs.strong.Statement.{statement}
 use Rattle.tally.proofs.strong.Tie as tie
-use Rattle.tally.proofs.strong.Reads as reads
-use Rattle.tally.proofs.strong.Lts as lts
-use Rattle.tally.proofs.held_tag.Reads as held-tag-reads
-use Rattle.tally.proofs.new_tag.Reads as new-tag-reads
-use Rattle.tally.proofs.place.Reads as place-reads
 
 place-requires : tie.Need-place-requires
 place-requires c κs = search needs

@@ -6,11 +6,6 @@ use Rattle.tally.specs.CallLaws.{tally-small, call-23, call-weak, call-s
 use Rattle.tally.proofs.Laws.{tally-full}
 use Rattle.tally.proofs.update.Statement.{statement}
 use Rattle.tally.proofs.update.Tie as tie
-use Rattle.tally.proofs.update.Reads as reads
-use Rattle.tally.proofs.update.Lts as lts
-use Rattle.tally.proofs.is_tally.Reads as is-tally-reads
-use Rattle.tally.proofs.strong.Reads as strong-reads
-use Rattle.tally.proofs.votes.Reads as votes-reads
 
 is-tally-requires : tie.Need-is-tally-requires
 is-tally-requires c κs = search needs

@@ -3,11 +3,6 @@ use Rattle.tally.specs.VoteLaws.{votes-accumulated}
 use borrow.Author.Needs.{needs}
 use Rattle.tally.proofs.votes.Statement.{statement}
 use Rattle.tally.proofs.votes.Tie as tie
-use Rattle.tally.proofs.votes.Reads as reads
-use Rattle.tally.proofs.votes.Lts as lts
-use Rattle.tally.proofs.at_or_above.Reads as at-or-above-reads
-use Rattle.tally.proofs.floor_word.Reads as floor-word-reads
-use Rattle.video.proofs.vset_lanes.Reads as vset-lanes-reads
 
 floor-word-requires : tie.Need-floor-word-requires
 floor-word-requires c κs = search needs
