@@ -2,10 +2,12 @@
 use Prim.Native.Nat.{ℕ, _+_}
 use mathlib.Core.Path.{_≡_, refl}
 use mathlib.Core.List.{List, [], _∷_, _++_, map}
+use lib.ListN.{replicate}
 use Rattle.signs.specs.Lists.{tab}
 use Rattle.tally.specs.declared.Entry.{Entry}
 use Rattle.tally.specs.declared.Read.{Read}
 use Rattle.tally.specs.Votes.{voteOf}
+use Rattle.tally.specs.Lent.{noEntry, entriesOf, keeping, outcome, callOf, emptyTally}
 use Rattle.tally.specs.Passes.{Answer, counted, duplicate, weak, refused, Outcome, gives, entry, isTally, called}
 
 pub record Figure : Type 0 where
@@ -85,3 +87,12 @@ expected x = gives (x .answer) (x .after)
 pub figures-hold : map computed figures ≡ map expected figures
 unfolding figures called isTally voteOf
 figures-hold = refl
+
+-- the same of the struct that is lent: the entry stands in the first free place, and the others are as they were
+pub lent-counted : callOf emptyTally strong 0x80 ≡ outcome (counted 1) (record { len = 1; entries = entry 7 3 1 ∷ replicate 31 noEntry })
+unfolding callOf entriesOf keeping called isTally voteOf
+lent-counted = refl
+
+pub lent-weak : callOf emptyTally feeble 0x80 ≡ outcome (weak 4) emptyTally
+unfolding callOf entriesOf keeping called isTally voteOf
+lent-weak = refl
