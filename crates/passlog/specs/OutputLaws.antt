@@ -48,7 +48,7 @@ all-turns floor n (l ∷ ls) t = more (read-says l) (all-turns floor (suc n) ls 
 abbrev pub computed : ℕ → List ℕ → List ℕ
 computed floor s = turnsText floor 1 (linesOf s) emptyTally ++ endText (entriesOf (turnsTally floor (linesOf s) emptyTally))
 
--- (the limit stands here as the issue has it, so that it does not hang on a name)
+-- (the limit stands here as README has it, so that it does not hang on a name)
 pub computed-output : (floor : ℕ) (s : List ℕ) → length s ≤ 65536 → Output floor s (computed floor s)
 computed-output floor s h = printed h (all-turns floor 1 (linesOf s) emptyTally)
 
@@ -250,7 +250,7 @@ pub no-tally-no-end : (t : Tally) (out : List ℕ) → isTally (entriesOf t) ≡
 unfolding ending
 no-tally-no-end t out h = rw h
 
--- the calls that lines are
+-- the calls that lines are (`readOf` is what a line says, by `read-says`)
 abbrev pub withCall : ℕ → Option Read → List Call → List Call
 withCall floor none h = h
 withCall floor (some r) h = record { read = r; floor = floor } ∷ h

@@ -237,7 +237,7 @@ floor-says l = spelled-says FloorFits floorText floorGuess floor-fits floor-back
 pub floor-one : {l : List ℕ} {x y : Option ℕ} → SaysFloor l x → SaysFloor l y → x ≡ y
 floor-one a b = spelled-one FloorFits floorText floorGuess floor-fits floor-back a b
 
--- each read has its line (the bounds stand here as the issue has them, so that they do not hang on a name), and no line is two reads'
+-- each read has its line (the bounds stand here as README has them, so that they do not hang on a name), and no line is two reads'
 pub read-written : (r : Read) → r .tag ≤ 4294967295 → r .pass ≤ 4294967295 → r .first < 2 ^ 32 → r .second < 2 ^ 32 → SaysRead (readText r) (some r)
 read-written r a b c d = is-of {x = r} (record { tag = omega arith; pass = omega arith; first = omega arith; second = omega arith }) refl
 

@@ -98,7 +98,8 @@ pub data Calls (floor : ℕ) (s : List ℕ) : ℕ → ℕ → Tally → List ℕ
 
 -- ==== the end
 
--- as many bytes as the text of an entry has at most: two numbers of 32 bits and one of 8, two spaces, ` washed`, a line feed; and that of the end
+-- room for an entry's text, as if a count of three digits could be washed: two numbers of 32 bits and one of 8, two spaces, ` washed`, a line feed; and for
+-- that of the end
 abbrev pub entryRoom : ℕ
 entryRoom = 10 + 1 + 10 + 1 + 3 + 7 + 1
 

@@ -22,7 +22,7 @@ const LIMIT: usize = 65536;
 // As many bytes as the text of a line has at most.
 const LINE_ROOM: usize = 32;
 
-// As many bytes as the text of the end has at most.
+// Room for the text of any end.
 const END_ROOM: usize = 1056;
 
 // Room for the text of any read.

@@ -25,7 +25,7 @@ outcomeOf t c = callOf t (c .read) (c .floor)
 -- an empty tally holds no tag, whatever stands in its 32 places
 pub record Empty (t : Tally) : Type 0 where
   pub full : length (t .entries) ≡ mostTags
-  pub none : t .len ≡ 0
+  pub holds-none : t .len ≡ 0
 
 -- the tally after a history of calls, each lent what the one before it left
 abbrev pub after : Tally → List Call → Tally

@@ -90,16 +90,16 @@ count-after tag t (c ∷ h) w = omega (arith, count-after tag (outcomeOf t c .ta
 
 -- from an empty tally
 module _ (t : Tally) (e : Empty t) where
-  holds-none : entriesOf t ≡ []
+  no-entries : entriesOf t ≡ []
   unfolding entriesOf
-  holds-none = ap (λ (n : ℕ). tab n (λ i. getD (t .entries) i noEntry)) (e .none)
+  no-entries = ap (λ (n : ℕ). tab n (λ i. getD (t .entries) i noEntry)) (e .holds-none)
 
   pub whole-empty : Whole t
   unfolding isTally
-  whole-empty = record { full = e .full; tally = rw holds-none refl }
+  whole-empty = record { full = e .full; tally = rw no-entries refl }
 
   none-at-first : (tag : ℕ) → countAt tag t ≡ 0
-  none-at-first tag = rw holds-none refl
+  none-at-first tag = rw no-entries refl
 
   -- the count is the number of counted passes, up to 3
   pub counts-to-three : (tag : ℕ) (h : List Call) → countAt tag (after t h) ≡ min 3 (countedOf tag t h)
@@ -119,4 +119,4 @@ module _ (t : Tally) (e : Empty t) where
 
 -- `empty` makes one
 pub empty-is : Empty emptyTally
-empty-is = record { full = length-replicate mostTags noEntry; none = refl }
+empty-is = record { full = length-replicate mostTags noEntry; holds-none = refl }

@@ -89,7 +89,7 @@ judged l r (some e) =
     (cond (ltb (r .pass) (e .last)) (gives (refused 19) l)
     (counts l r (nextCount (e .count))))
 -- a new tag's becomes its last and counts one; 20 new tag with 32 held
-judged l r none = cond (ltb (length l) mostTags) (counts l r 1) (gives (refused 20) l)
+judged l r none = cond (ltb (length l) mostTags) (counts l r leastCount) (gives (refused 20) l)
 
 -- first 23; then under five votes: answered weak, nothing changed; 19 and 20 after the weak answer
 unfoldable pub called : List Entry → Read → ℕ → Outcome

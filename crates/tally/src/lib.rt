@@ -52,6 +52,8 @@ const TAGS: usize = 32;
 
 const ENOUGH_VOTES: u32 = 5;
 
+const LEAST_COUNT: u8 = 1;
+
 const WASHED: u8 = 3;
 
 // A byte times this stands in all four bytes of a word.
@@ -116,7 +118,7 @@ fn place(entries: [Entry; TAGS], from: usize, n: usize, tag: u32) -> usize
 fn count_fits(e: Entry) -> bool
     ensures { λ r. ⌜ r ≡ countFits e ⌝ }
 {
-    (1 <= e.count) & (e.count <= WASHED)
+    (LEAST_COUNT <= e.count) & (e.count <= WASHED)
 }
 
 // Whether it is a tally: at most 32 tags, none twice, each count 1 to 3.
@@ -214,10 +216,10 @@ fn new_tag(t: Tally, r: Read) -> Updated
     let new = Entry {
         tag: r.tag,
         last: r.pass,
-        count: 1,
+        count: LEAST_COUNT,
     };
     Updated {
-        answer: Passed::Counted(1),
+        answer: Passed::Counted(LEAST_COUNT),
         tally: put(t, n, new),
     }
 }
