@@ -57,10 +57,7 @@ every-input floor s = go (ltb listingLimit (length s)) refl
   where
     go : (b : Bool) → ltb listingLimit (length s) ≡ b → (t : List ℕ) × Output floor s t
     go true e = (tooLongText, log.too-long (ltb-true listingLimit (length s) e))
-    go false e = (
-      turnsText floor 1 (linesOf s) emptyTally ++ endText (entriesOf (turnsTally floor (linesOf s) emptyTally)),
-      printed (ltb-false listingLimit (length s) e) (all-turns floor 1 (linesOf s) emptyTally),
-    )
+    go false e = (computed floor s, computed-output floor s (ltb-false listingLimit (length s) e))
 
 pub turns-one : {floor n : ℕ} {ls : List (List ℕ)} {x y : List ℕ} {t g h : Tally} → Turns floor n ls t x g → Turns floor n ls t y h → (x ≡ y) × (g ≡ h)
 turns-one log.ended log.ended = (refl, refl)
