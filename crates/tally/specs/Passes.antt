@@ -1,6 +1,6 @@
 -- Document 02, T-13, on lists: a tally is its entries in the order in which their tags came. Each sentence stands above what says it.
 use Prim.Native.Nat.{ℕ, _+_}
-use mathlib.Core.Bool.{Bool, true, false, not, _&&_, _||_, cond}
+use mathlib.Core.Bool.{Bool, true, false, not, _&&_, cond}
 use mathlib.Core.List.{List, [], _∷_}
 use mathlib.Core.Option.{Option, none, some}
 use lib.Dec.{ltb, leb, eqb}
@@ -29,10 +29,18 @@ washedCount = 3
 abbrev pub countFits : Entry → Bool
 countFits e = leb leastCount (e .count) && leb (e .count) washedCount
 
--- the tag has an entry
+-- the entry of a tag
+abbrev pub standing : ℕ → List Entry → Option Entry
+standing tag [] = none
+standing tag (e ∷ l) = cond (eqb (e .tag) tag) (some e) (standing tag l)
+
+-- the tag has one
+abbrev pub isThere : Option Entry → Bool
+isThere none = false
+isThere (some e) = true
+
 abbrev pub held : ℕ → List Entry → Bool
-held tag [] = false
-held tag (e ∷ l) = eqb (e .tag) tag || held tag l
+held tag l = isThere (standing tag l)
 
 -- no tag twice, no count outside 1 to 3
 abbrev pub entriesFit : List Entry → Bool
@@ -42,11 +50,6 @@ entriesFit (e ∷ l) = countFits e && (not (held (e .tag) l) && entriesFit l)
 -- 23 says that this does not hold: a tally with over 32 tags, a tag twice or a count outside 1 to 3
 unfoldable pub isTally : List Entry → Bool
 isTally l = leb (length l) mostTags && entriesFit l
-
--- the entry of a tag
-abbrev pub standing : ℕ → List Entry → Option Entry
-standing tag [] = none
-standing tag (e ∷ l) = cond (eqb (e .tag) tag) (some e) (standing tag l)
 
 -- the entry n in place of its tag's, or behind the others where its tag is new
 abbrev pub noted : Entry → List Entry → List Entry

@@ -3,7 +3,7 @@ use Prim.Native.Nat.{ℕ, zero, suc, _+_, _-_, _≤_, _<_}
 use native.Mathlib.Numerals.{add-one}
 use native.Mathlib.Omega.{arith}
 use mathlib.Core.Path.{_≡_, refl, sym, ap, _∙_}
-use mathlib.Core.Bool.{Bool, true, false, _||_, cond}
+use mathlib.Core.Bool.{Bool, true, false, cond}
 use mathlib.Core.List.{List, [], _∷_, _++_}
 use mathlib.Core.Option.{none, some}
 use lib.Dec.{ltb, leb, eqb}
@@ -14,7 +14,7 @@ use Rattle.signs.specs.Lists.{tab}
 use Rattle.base.specs.Tests.{ltb-same}
 use Rattle.tally.specs.declared.Entry.{Entry}
 use Rattle.tally.specs.declared.Tally.{Tally}
-use Rattle.tally.specs.Passes.{mostTags, standing, held, noted, countFits, entriesFit, isTally}
+use Rattle.tally.specs.Passes.{mostTags, standing, isThere, held, noted, countFits, entriesFit, isTally}
 use Rattle.tally.specs.Lent.{noEntry, entriesOf, keeping}
 use Rattle.tally.specs.Places.{placeOf, putAt}
 
@@ -52,7 +52,7 @@ module _ (tag : ℕ) where
   held-place [] = refl
   held-place (e ∷ l) = go (eqb (e .tag) tag) (held-place l)
     where
-      go : (t : Bool) → held tag l ≡ ltb (placeOf tag l) (length l) → t || held tag l ≡ ltb (cond t 0 (suc (placeOf tag l))) (suc (length l))
+      go : (t : Bool) → held tag l ≡ ltb (placeOf tag l) (length l) → isThere (cond t (some e) (standing tag l)) ≡ ltb (cond t 0 (suc (placeOf tag l))) (suc (length l))
       go true h = sym (lt-ltb 0 (suc (length l)) (omega arith))
       go false h = h ∙ ltb-same (placeOf tag l) (length l) (suc (placeOf tag l)) (suc (length l)) (λ k. omega arith) (λ k. omega arith)
 

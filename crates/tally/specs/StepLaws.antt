@@ -2,7 +2,7 @@
 use Prim.Native.Nat.{ℕ, suc, _+_, _≤_, min}
 use native.Mathlib.Omega.{arith}
 use mathlib.Core.Path.{_≡_, refl, sym, ap, _∙_}
-use mathlib.Core.Bool.{Bool, true, false, not, _&&_, _||_, cond}
+use mathlib.Core.Bool.{Bool, true, false, not, _&&_, cond}
 use mathlib.Core.List.{List, [], _∷_}
 use mathlib.Core.Option.{Option, none, some}
 use lib.Dec.{ltb, leb, eqb}
@@ -12,7 +12,7 @@ use Rattle.rules.specs.Numbers.{bit}
 use Rattle.tally.specs.declared.Entry.{Entry}
 use Rattle.tally.specs.declared.Read.{Read}
 use Rattle.tally.specs.Votes.{voteOf}
-use Rattle.tally.specs.Passes.{Answer, counted, duplicate, weak, refused, Outcome, gives, entry, mostTags, leastCount, washedCount, enoughVotes, standing, held, noted, countFits, entriesFit, isTally, nextCount, counts, judged, called}
+use Rattle.tally.specs.Passes.{Answer, counted, duplicate, weak, refused, Outcome, gives, entry, mostTags, leastCount, washedCount, enoughVotes, standing, isThere, held, noted, countFits, entriesFit, isTally, nextCount, counts, judged, called}
 use Rattle.tally.specs.History.{isCounted, countIn}
 
 pub clash : false ≡ true → ⊥
@@ -52,12 +52,7 @@ module _ (tag : ℕ) (n : Entry) (other : n .tag ≡ tag → ⊥) where
       go false h i = ap (cond (eqb (e .tag) tag) (some e)) i
 
   others-held : (l : List Entry) → held tag (noted n l) ≡ held tag l
-  others-held [] = rw (ne-eqb (n .tag) tag other)
-  others-held (e ∷ l) = go (eqb (e .tag) (n .tag)) refl (others-held l)
-    where
-      go : (t : Bool) → eqb (e .tag) (n .tag) ≡ t → held tag (noted n l) ≡ held tag l → held tag (cond t (n ∷ l) (e ∷ noted n l)) ≡ eqb (e .tag) tag || held tag l
-      go true h i = rw (ne-eqb (n .tag) tag other, differs e h)
-      go false h i = ap (λ (b : Bool). eqb (e .tag) tag || b) i
+  others-held l = ap isThere (others-stand l)
 
 -- what the first entry of a list that fits says
 module _ (e : Entry) (l : List Entry) (f : entriesFit (e ∷ l) ≡ true) where
