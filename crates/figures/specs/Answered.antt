@@ -25,7 +25,8 @@ use Rattle.rules.specs.Execution.{selectedOf, formOf, arithmeticOf, lanesOf, la
 use Rattle.rules.specs.Executing.{combinedOf, testOf, writes, after, sizesFit, predsFit, guardHolds, run}
 use Rattle.rules.specs.StandardLine.{standard}
 use Rattle.changes.specs.Changes.{startFiles, changeText, changesText, registersText}
-use Rattle.report.specs.Listing.{linesWith, printedLine, listingLimit, Output}
+use Rattle.lines.specs.Lines.{linesWith, listingLimit}
+use Rattle.report.specs.Listing.{printedLine, Output}
 use Rattle.report.specs.OutputLaws.{turnsText, turnsFiles, computed, computed-output}
 use Rattle.rules.specs.Reading.{Answer, read, refused, refused-at, Answers}
 use Rattle.scan.specs.Runs.{cappedSum}

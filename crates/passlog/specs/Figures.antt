@@ -10,13 +10,14 @@ use Rattle.signs.specs.Text.{bytes}
 use Rattle.signs.specs.Digits.{decimal, decimalIn, hex}
 use Rattle.signs.specs.Bytes.{lineFeed}
 use Rattle.text.specs.Same.{sameText}
-use Rattle.report.specs.Listing.{linesWith}
+use Rattle.lines.specs.Lines.{linesWith}
 use Rattle.tally.specs.declared.Read.{Read}
 use Rattle.tally.specs.Votes.{voteOf}
 use Rattle.tally.specs.Passes.{isTally, called}
 use Rattle.tally.specs.Lent.{entriesOf, keeping, callOf}
 use Rattle.passlog.specs.Log.{loggedLine, Output}
-use Rattle.passlog.specs.Spelling.{lengthTo, numberFrom, guessOf, floorGuess, readOf, floorOf}
+use Rattle.lines.specs.Until.{lengthTo}
+use Rattle.passlog.specs.Spelling.{numberFrom, guessOf, floorGuess, readOf, floorOf}
 use Rattle.passlog.specs.OutputLaws.{computed, computed-output}
 
 -- texts, each with a line feed behind it

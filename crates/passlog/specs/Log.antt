@@ -11,7 +11,8 @@ use Rattle.signs.specs.Text.{bytes}
 use Rattle.signs.specs.Digits.{decimal, hex}
 use Rattle.signs.specs.Bytes.{lineFeed}
 use Rattle.rules.specs.Numbers.{wordSize}
-use Rattle.report.specs.Listing.{listingLimit, tooLongText, linesOf, refusedText}
+use Rattle.lines.specs.Lines.{listingLimit, linesOf}
+use Rattle.report.specs.Listing.{tooLongText, refusedText}
 use Rattle.tally.specs.declared.Entry.{Entry}
 use Rattle.tally.specs.declared.Read.{Read}
 use Rattle.tally.specs.declared.Tally.{Tally}

@@ -7,14 +7,15 @@ use mathlib.Core.Path.{_≡_, refl, sym, ap, ap₂, subst, _∙_}
 use mathlib.Core.Bool.{Bool, true, false, cond}
 use mathlib.Core.List.{List, [], _∷_, _++_, append-assoc, append-nil}
 use mathlib.Core.Option.{Option, none, some}
-use lib.ListN.{length, take, drop, length-append, length-drop, drop-of-length-le}
-use lib.Seq.{drop-drop, append-snoc, take-at}
-use lib.Dec.{eqb, ltb, leb}
+use lib.ListN.{length, take, drop}
+use lib.Seq.{take-at}
+use lib.Dec.{ltb, leb}
 use borrow.Author.Tests.{ltb-true, ltb-false, le-ltb}
 use Rattle.signs.specs.Bytes.{lineFeed}
 use Rattle.signs.specs.Text.{bytes}
 use Rattle.rules.specs.Writing.{front}
-use Rattle.report.specs.Listing.{listingLimit, tooLongText, linesWith, linesOf}
+use Rattle.lines.specs.Lines.{listingLimit, linesOf}
+use Rattle.report.specs.Listing.{tooLongText}
 use Rattle.report.specs.Chunks.{nextNumber}
 use Rattle.tally.specs.declared.Read.{Read}
 use Rattle.tally.specs.declared.Tally.{Tally}
@@ -25,7 +26,8 @@ use Rattle.tally.specs.HistoryLaws.{Whole, whole-after, whole-empty, empty-is, 
 use Rattle.passlog.specs.declared.Progress.{Progress}
 use Rattle.passlog.specs.Log.{tallyAfter, loggedLine, endText, Turns, more, Output, printed}
 use Rattle.passlog.specs.Log as log
-use Rattle.passlog.specs.Spelling.{lengthTo, before, behind, readOf}
+use Rattle.lines.specs.LineLaws.{first-line, no-lines}
+use Rattle.passlog.specs.Spelling.{readOf}
 use Rattle.passlog.specs.SpellingLaws.{read-says, read-one}
 use Rattle.passlog.specs.Steps.{lineAt, nextPlace, lineRoom, Step, ended, no-room, too-long, one-line, Logs, Calls, no-more, one-more, endRoom, endOutcome, printed-bytes, refused, ending}
 
@@ -120,30 +122,6 @@ logs-one {out = out} x y p q =
 -- the text that a call answers the length of stands at the front of its buffer
 pub logs-text : {floor from n e m len : ℕ} {s out after : List ℕ} {t g : Tally} (p : Logs floor s from n t out e m len g after) → take len after ≡ p .text
 logs-text {out = out} p = rw (p .buffer, p .length-of) (take-at (p .text) (drop (length (p .text)) out) (length (p .text)) refl)
-
--- ==== the lines, one at a time
-
-line-with : (l s : List ℕ) → 0 < length (l ++ s) → linesWith l s ≡ (l ++ before lineFeed s) ∷ linesOf (behind lineFeed s)
-unfolding linesWith lengthTo
-line-with [] [] h = absurd (omega arith)
-line-with (b ∷ l) [] h = ap (λ (x : List ℕ). x ∷ []) (sym (append-nil (b ∷ l)))
-line-with l (b ∷ s) h = go (eqb b lineFeed) (line-with (l ++ (b ∷ [])) s (simp length-append (omega arith)))
-  where
-    go : (t : Bool) → linesWith (l ++ (b ∷ [])) s ≡ (l ++ (b ∷ []) ++ before lineFeed s) ∷ linesOf (behind lineFeed s)
-        → cond t (l ∷ linesWith [] s) (linesWith (l ++ (b ∷ [])) s)
-        ≡ (l ++ take (cond t 0 (suc (lengthTo lineFeed s))) (b ∷ s)) ∷ linesOf (drop (suc (cond t 0 (suc (lengthTo lineFeed s)))) (b ∷ s))
-    go true e = ap (λ (x : List ℕ). x ∷ linesOf s) (sym (append-nil l))
-    go false e = e ∙ ap (λ (x : List ℕ). x ∷ linesOf (behind lineFeed s)) (append-snoc l b (before lineFeed s))
-
-first-line : (s : List ℕ) (from : ℕ) → from < length s → linesOf (drop from s) ≡ lineAt s from ∷ linesOf (drop (nextPlace s from) s)
-first-line s from h =
-    let e : from + suc (lengthTo lineFeed (drop from s)) ≡ nextPlace s from = omega arith in
-    line-with [] (drop from s) (omega (arith, length-drop from s))
-    ∙ ap (λ (x : List ℕ). lineAt s from ∷ linesOf x) (drop-drop (suc (lengthTo lineFeed (drop from s))) from s ∙ ap (λ (k : ℕ). drop k s) e)
-
-no-lines : (s : List ℕ) (from : ℕ) → length s ≤ from → linesOf (drop from s) ≡ []
-unfolding linesWith
-no-lines s from h = rw (drop-of-length-le s h)
 
 -- ==== calls until the input ends
 

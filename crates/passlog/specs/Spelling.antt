@@ -4,26 +4,14 @@ use Prim.Native.Nat.{ℕ, suc, _+_, _-_, _*_, _%_, _^_}
 use mathlib.Core.Bool.{cond}
 use mathlib.Core.List.{List, [], _∷_}
 use mathlib.Core.Option.{Option, none, some}
-use lib.Dec.{ltb, eqb}
-use lib.ListN.{take, drop}
+use lib.Dec.{ltb}
 use Rattle.signs.specs.Digits.{zeroByte, tenByte}
 use Rattle.signs.specs.Bytes.{spaceByte}
 use Rattle.rules.specs.Numbers.{wordSize}
 use Rattle.text.specs.Same.{sameText}
+use Rattle.lines.specs.Until.{before, behind}
 use Rattle.tally.specs.declared.Read.{Read}
 use Rattle.passlog.specs.Log.{floorDigits, floorText, readText}
-
--- how many bytes stand before the first b, or all
-unfoldable pub lengthTo : ℕ → List ℕ → ℕ
-lengthTo b [] = 0
-lengthTo b (x ∷ s) = cond (eqb x b) 0 (suc (lengthTo b s))
-
--- what stands before it, and what behind it
-abbrev pub before : ℕ → List ℕ → List ℕ
-before b s = take (lengthTo b s) s
-
-abbrev pub behind : ℕ → List ℕ → List ℕ
-behind b s = drop (suc (lengthTo b s)) s
 
 -- what a digit stands for, also a hexadecimal one; any other byte stands for something too
 abbrev pub digitOf : ℕ → ℕ

@@ -20,7 +20,8 @@ use Rattle.text.specs.Same.{sameText, text-same, same-text}
 use Rattle.text.specs.DigitLaws.{one-digit, more-digits}
 use Rattle.tally.specs.declared.Read.{Read}
 use Rattle.passlog.specs.Log.{Says, is-of, is-none, SaysFloor, FloorFits, floorDigits, floorText, wordDigits, readText, ReadFits, SaysRead}
-use Rattle.passlog.specs.Spelling.{lengthTo, digitOf, numberFrom, numberOf, wordAt, restOf, guessOf, floorGuess, spelled, readOf, floorOf}
+use Rattle.lines.specs.Until.{lengthTo}
+use Rattle.passlog.specs.Spelling.{digitOf, numberFrom, numberOf, wordAt, restOf, guessOf, floorGuess, spelled, readOf, floorOf}
 
 -- ==== the digits of numbers
 

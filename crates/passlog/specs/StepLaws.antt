@@ -18,7 +18,8 @@ use Rattle.signs.specs.Bytes.{lineFeed}
 use Rattle.rules.specs.Numbers.{wordSize}
 use Rattle.text.specs.Buffer.{Buffer, buffer, Puts, _then_, same, whole-front}
 use Rattle.text.specs.DigitLaws.{one-digit, more-digits, decimal-short, hex-length}
-use Rattle.report.specs.Listing.{listingLimit, tooLongText}
+use Rattle.lines.specs.Lines.{listingLimit}
+use Rattle.report.specs.Listing.{tooLongText}
 use Rattle.report.specs.Chunks.{nextNumber}
 use Rattle.tally.specs.declared.Entry.{Entry}
 use Rattle.tally.specs.declared.Read.{Read}
@@ -32,26 +33,9 @@ use Rattle.tally.specs.CallLaws.{tally-small}
 use Rattle.tally.specs.declared.Passed.{Passed}
 use Rattle.tally.specs.Lent.{noEntry, entriesOf, callOf}
 use Rattle.passlog.specs.Log.{floorDigits, floorText, wordDigits, readText, ReadFits, SaysRead, answerText, lineAnswer, loggedLine, washedText, entryText, endText}
-use Rattle.passlog.specs.Spelling.{lengthTo, digitOf, numberFrom}
+use Rattle.passlog.specs.Spelling.{digitOf, numberFrom}
 use Rattle.passlog.specs.Steps.{readRoom, lineAt, nextPlace, PutsAnswer, PutsLine, answerRoom, lineRoom, ended, no-room, too-long, one-line, Logs, entryRoom, endRoom, endOutcome, printed-bytes, ending}
 use Rattle.passlog.specs.Steps as steps
-
--- ==== where a byte stands
-
-module _ (b : ℕ) (s : List ℕ) (i at : ℕ) where
-  pub to-end : length s ≤ i → i + lengthTo b (drop i s) ≡ at → i ≡ at
-  unfolding lengthTo
-  to-end h e = let k : lengthTo b (drop i s) ≡ 0 = rw (drop-of-length-le s h) in omega arith
-
-  pub to-here : i < length s → getD s i 0 ≡ b → i + lengthTo b (drop i s) ≡ at → i ≡ at
-  unfolding lengthTo
-  to-here h q e = let k : lengthTo b (drop i s) ≡ 0 = rw (drop-cons s i 0 h, eq-eqb (getD s i 0) b q) in omega arith
-
-  pub to-next : i < length s → (getD s i 0 ≡ b → ⊥) → i + lengthTo b (drop i s) ≡ at → i + 1 + lengthTo b (drop (i + 1) s) ≡ at
-  unfolding lengthTo
-  to-next h q e =
-      let k : lengthTo b (drop i s) ≡ suc (lengthTo b (drop (suc i) s)) = rw (drop-cons s i 0 h, ne-eqb (getD s i 0) b q) in
-      rw (add-one i) (omega arith)
 
 -- ==== a number, digit by digit
 

@@ -12,7 +12,8 @@ use Rattle.signs.specs.Bytes.{lineFeed}
 use Rattle.rules.specs.Writing.{front}
 use Rattle.text.specs.Buffer.{Buffer, Puts}
 use Rattle.text.specs.DigitLaws.{mostDigits}
-use Rattle.report.specs.Listing.{listingLimit, tooLongText}
+use Rattle.lines.specs.Lines.{listingLimit}
+use Rattle.report.specs.Listing.{tooLongText}
 use Rattle.report.specs.Chunks.{nextNumber}
 use Rattle.tally.specs.declared.Read.{Read}
 use Rattle.tally.specs.declared.Tally.{Tally}
@@ -25,7 +26,7 @@ use Rattle.passlog.specs.declared.Floor.the-variants as floor
 use Rattle.passlog.specs.declared.Ended.{Ended}
 use Rattle.passlog.specs.declared.Ended.the-variants.{Length, NoRoom, Refused}
 use Rattle.passlog.specs.Log.{wordDigits, SaysRead, lineAnswer, tallyAfter, loggedLine, endText}
-use Rattle.passlog.specs.Spelling.{lengthTo, before}
+use Rattle.lines.specs.Until.{lengthTo, before}
 
 -- ==== what the answers say
 

@@ -10,10 +10,10 @@ ghost use lib.ListN.{length};
 ghost use Rattle.signs.specs.Digits.{decimal};
 ghost use Rattle.rules.specs.Numbers.{wordSize};
 ghost use Rattle.text.specs.Buffer.{buffer, Puts};
-ghost use Rattle.report.specs.Listing.{listingLimit};
+ghost use Rattle.lines.specs.Lines.{listingLimit};
 ghost use Rattle.tally.specs.Lent as lent;
 ghost use Rattle.passlog.specs.Log.{SaysFloor, readText, SaysRead, answerText, washedText, entryText};
-ghost use Rattle.passlog.specs.Spelling.{lengthTo, digitOf, numberOf, wordAt, restOf, guessOf};
+ghost use Rattle.passlog.specs.Spelling.{digitOf, numberOf, wordAt, restOf, guessOf};
 ghost use Rattle.passlog.specs.Steps.{twoText, lineOf, floorSaid, lineRoom, PutsAnswer, PutsLine, Logs, entryRoom, answerOf, endOutcome, ending};
 
 // At most so many bytes of input.
@@ -84,25 +84,11 @@ struct Put {
 
 // ---- texts read
 
-// How many bytes stand before the first b, or all.
-fn until(s: &[u8], b: u8) -> usize
-    ensures { λ r. ⌜ (r ≤ length (now (s .entry))) × (r ≡ lengthTo b (now (s .entry))) ⌝ }
-{
-    let mut i = 0;
-    while i < s.len() {
-        if s[i] == b {
-            return i;
-        }
-        i += 1;
-    }
-    i
-}
-
 // What stands before the first space.
 fn word(s: &[u8]) -> &[u8]
     ensures { λ r. ⌜ now r ≡ wordAt (now (s .entry)) ⌝ }
 {
-    let n = until(s, SPACE);
+    let n = lines::until(s, 0, SPACE);
     &s[..n]
 }
 
@@ -110,7 +96,7 @@ fn word(s: &[u8]) -> &[u8]
 fn rest(s: &[u8]) -> &[u8]
     ensures { λ r. ⌜ now r ≡ restOf (now (s .entry)) ⌝ }
 {
-    let n = until(s, SPACE);
+    let n = lines::until(s, 0, SPACE);
     scan::rest(s, n + 1)
 }
 
@@ -265,7 +251,7 @@ fn log_one(floor: u8, input: &[u8], from: usize, number: u64, t: Tally, out: &mu
     requires { ⌜ (from < length (now input)) × (lineRoom ≤ length (now out)) × (length (now input) ≤ listingLimit) ⌝ }
     ensures { λ r. ⌜ Logs floor (now (input .entry)) from number t (now (out .entry)) (r .at) (r .number) (r .len) (r .tally) (now (out .exit)) ⌝ }
 {
-    let end = from + until(&input[from..], LINE_FEED);
+    let end = lines::until(input, from, LINE_FEED);
     let p = put_line(out, floor, number, t, &input[from..end]);
     let after = p.tally;
     Progress {

@@ -1,5 +1,5 @@
 -- Laws of the code's way through a listing: what a turn of its loops needs. Assumes nothing.
-use Prim.Native.Nat.{ℕ, suc, _+_, _-_, _^_, _≤_, _<_}
+use Prim.Native.Nat.{ℕ, _+_, _-_, _^_, _≤_, _<_}
 use native.Mathlib.Nat.{sub-zero}
 use native.Mathlib.Numerals.{add-one}
 use native.Mathlib.Omega.{arith}
@@ -26,30 +26,10 @@ use Rattle.laws.specs.OutcomeLaws.{execute-refused}
 use Rattle.read.specs.Promises.{refused-listed, refused-at-listed, refused-at-within}
 use Rattle.text.specs.Buffer.{buffer, Puts, _then_, whole-front}
 use Rattle.text.specs.DigitLaws.{decimal-short}
-use Rattle.report.specs.Listing.{refusedText, executedText, answerText, printedLine, Turn, listingLimit, tooLongText}
+use Rattle.lines.specs.Lines.{listingLimit}
+use Rattle.report.specs.Listing.{refusedText, executedText, answerText, printedLine, Turn, tooLongText}
 use Rattle.signs.specs.Bytes.{lineFeed}
-use Rattle.report.specs.Chunks.{lineLength, lineAt, behind, nextPlace, nextNumber, lineRoom, PutsTurn, SomeLines, ended, no-room, too-long, one-more, Prints}
-
--- ==== where a line ends
-
-length-at-end : (s : List ℕ) (i : ℕ) → length s ≤ i → lineLength (drop i s) ≡ 0
-unfolding lineLength
-length-at-end s i h = rw (drop-of-length-le s h)
-
-pub ends-here : (s : List ℕ) (i at : ℕ) → length s ≤ i → i + lineLength (drop i s) ≡ at → i ≡ at
-ends-here s i at h e = omega (arith, length-at-end s i h)
-
-pub feed-here : (s : List ℕ) (i at : ℕ) → i < length s → getD s i 0 ≡ lineFeed → i + lineLength (drop i s) ≡ at → i ≡ at
-unfolding lineLength
-feed-here s i at h b e =
-    let k : lineLength (drop i s) ≡ 0 = rw (drop-cons s i 0 h, eq-eqb (getD s i 0) lineFeed b) in
-    omega arith
-
-pub no-feed-here : (s : List ℕ) (i at : ℕ) → i < length s → (getD s i 0 ≡ lineFeed → ⊥) → i + lineLength (drop i s) ≡ at → i + 1 + lineLength (drop (i + 1) s) ≡ at
-unfolding lineLength
-no-feed-here s i at h b e =
-    let k : lineLength (drop i s) ≡ suc (lineLength (drop (suc i) s)) = rw (drop-cons s i 0 h, ne-eqb (getD s i 0) lineFeed b) in
-    rw (add-one i) (omega arith)
+use Rattle.report.specs.Chunks.{lineAt, behind, nextPlace, nextNumber, lineRoom, PutsTurn, SomeLines, ended, no-room, too-long, one-more, Prints}
 
 -- the next line begins further on
 pub further-on : (size from end : ℕ) → from < size → from ≤ end → from < behind size end

@@ -1,36 +1,40 @@
 -- The code's own way through a listing: it prints some lines at a time, as many as the lent buffer has room for, and goes on where it stopped.
-use Prim.Native.Nat.{ℕ, suc, _+_, _-_, _%_, _^_, _≤_, _<_}
+use Prim.Native.Nat.{ℕ, _+_, _-_, _%_, _^_, _≤_, _<_}
 use mathlib.Core.Path.{_≡_}
 use mathlib.Core.Bool.{cond}
-use mathlib.Core.List.{List, [], _∷_, _++_}
-use lib.ListN.{length, take, drop}
-use lib.Dec.{eqb, ltb}
+use mathlib.Core.List.{List, [], _++_}
+use lib.ListN.{length, drop}
+use lib.Dec.{ltb}
+use Rattle.record.specs.Refusals.{isLegal}
+use Rattle.record.specs.declared.Record.{Record}
 use Rattle.record.specs.declared.Target.{Target}
 use Rattle.record.specs.declared.Mode.{Mode}
 use Rattle.record.specs.Registers.{Files}
+use Rattle.rules.specs.StandardLine.{standard}
 use Rattle.rules.specs.Writing.{front}
 use Rattle.laws.specs.LineLengths.{longestLine}
 use Rattle.rules.specs.Reading.{Answer, Answers}
 use Rattle.text.specs.Buffer.{Buffer, Puts}
 use Rattle.text.specs.DigitLaws.{mostDigits}
-use Rattle.report.specs.Listing.{answerText, filesAfter, Turn, listingLimit, tooLongText}
+use Rattle.lines.specs.Lines.{listingLimit}
+use Rattle.lines.specs.Until.{lengthTo, before}
+use Rattle.report.specs.Listing.{answerText, filesAfter, Turn, tooLongText}
 use Rattle.signs.specs.Bytes.{lineFeed}
-
--- how many bytes stand before the first line feed, or all
-unfoldable pub lineLength : List ℕ → ℕ
-lineLength [] = 0
-lineLength (b ∷ s) = cond (eqb b lineFeed) 0 (suc (lineLength s))
 
 -- the line that begins at a place, and where the next one begins
 abbrev pub lineAt : List ℕ → ℕ → List ℕ
-lineAt s from = take (lineLength (drop from s)) (drop from s)
+lineAt s from = before lineFeed (drop from s)
 
 -- behind its line feed, or at the end of the listing
 abbrev pub behind : ℕ → ℕ → ℕ
 behind size end = cond (ltb end size) (end + 1) end
 
 abbrev pub nextPlace : List ℕ → ℕ → ℕ
-nextPlace s from = behind (length s) (from + lineLength (drop from s))
+nextPlace s from = behind (length s) (from + lengthTo lineFeed (drop from s))
+
+-- the standard line of a legal record; no other has one
+abbrev pub lineText : Record → List ℕ
+lineText r = cond (isLegal r) (standard r) []
 
 -- numbers of 64 bits; no listing has so many lines that they begin again
 abbrev pub nextNumber : ℕ → ℕ

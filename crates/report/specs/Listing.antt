@@ -2,10 +2,8 @@
 -- T-09: and in a mode; who calls it says which (docs/DECISIONS.md, Z4).
 use Prim.Native.Nat.{ℕ, suc, _≤_, _<_}
 use mathlib.Core.Path.{_≡_}
-use mathlib.Core.Bool.{cond}
 use mathlib.Core.List.{List, [], _∷_, _++_}
 use lib.ListN.{length}
-use lib.Dec.{eqb}
 use Rattle.signs.specs.Text.{bytes}
 use Rattle.record.specs.declared.Record.{Record}
 use Rattle.record.specs.declared.Target.{Target}
@@ -17,30 +15,12 @@ use Rattle.rules.specs.StandardLine.{standard}
 use Rattle.rules.specs.Reading.{Answer, read, refused, refused-at, Answers}
 use Rattle.signs.specs.Digits.{decimal}
 use Rattle.signs.specs.Bytes.{lineFeed}
+use Rattle.lines.specs.Lines.{listingLimit, linesOf}
 use Rattle.changes.specs.Changes.{startFiles, registersText}
 
--- The listing program reads standard input, at most 65,536 bytes
-abbrev pub listingLimit : ℕ
-listingLimit = 65536
-
--- (more: it prints `input too long` alone)
+-- The listing program reads standard input, at most 65,536 bytes (more: it prints `input too long` alone)
 abbrev pub tooLongText : List ℕ
 tooLongText = bytes "input too long" ++ (lineFeed ∷ [])
-
--- ==== the lines of a listing
-
--- a last one without a line feed counts if not empty
-abbrev pub lastLine : List ℕ → List (List ℕ)
-lastLine [] = []
-lastLine (b ∷ l) = (b ∷ l) ∷ []
-
--- Lines end at a line feed; l is what the line has so far
-unfoldable pub linesWith : List ℕ → List ℕ → List (List ℕ)
-linesWith l [] = lastLine l
-linesWith l (b ∷ s) = cond (eqb b lineFeed) (l ∷ linesWith [] s) (linesWith (l ++ (b ∷ [])) s)
-
-abbrev pub linesOf : List ℕ → List (List ℕ)
-linesOf s = linesWith [] s
 
 -- ==== what is printed of a line
 

@@ -6,9 +6,9 @@ use native.Mathlib.Omega.{arith}
 use mathlib.Core.Path.{_≡_, refl, sym, ap, ap₂, _∙_, subst}
 use mathlib.Core.Bool.{Bool, true, false, cond}
 use mathlib.Core.List.{List, [], _∷_, _++_, append-assoc, append-nil}
-use lib.ListN.{length, take, drop, length-append, length-drop, drop-of-length-le}
-use lib.Seq.{drop-drop, append-snoc, take-at}
-use lib.Dec.{eqb, ltb}
+use lib.ListN.{length, take, drop, drop-of-length-le}
+use lib.Seq.{take-at}
+use lib.Dec.{ltb}
 use borrow.Author.Tests.{ltb-true, ltb-false}
 use Rattle.record.specs.declared.Target.{Target}
 use Rattle.record.specs.declared.Mode.{Mode}
@@ -21,13 +21,17 @@ use Rattle.rules.specs.Writing.{front}
 use Rattle.read.specs.Mirror.{readOf}
 use Rattle.read.specs.Answering.{answers, answers-unique}
 use Rattle.report.specs.declared.Progress.{Progress}
-use Rattle.report.specs.Listing.{linesWith, linesOf, executedText, printedLine, filesAfter, Turn, Turns, none, more, listingLimit, tooLongText, Output, too-long, printed}
+use Rattle.lines.specs.Until.{lengthTo}
+use Rattle.lines.specs.LineLaws.{no-lines}
+use Rattle.lines.specs.LineLaws as lines
+use Rattle.lines.specs.Lines.{linesOf, listingLimit}
+use Rattle.report.specs.Listing.{executedText, printedLine, filesAfter, Turn, Turns, none, more, tooLongText, Output, too-long, printed}
 use Rattle.signs.specs.Bytes.{lineFeed}
 use Rattle.signs.specs.Text.{bytes}
 use Rattle.signs.specs.Digits.{decimal}
 use Rattle.record.specs.declared.Record.{Record}
 use Rattle.changes.specs.Changes.{startFiles, changeText, changesText, registersText}
-use Rattle.report.specs.Chunks.{lineLength, lineAt, behind, nextPlace, nextNumber, lineRoom, SomeLines, ended, no-room, one-more, Prints, Calls}
+use Rattle.report.specs.Chunks.{lineAt, behind, nextPlace, nextNumber, lineRoom, SomeLines, ended, no-room, one-more, Prints, Calls}
 use Rattle.report.specs.Chunks as chunks
 use Rattle.report.specs.ChunkLaws.{further-on}
 
@@ -143,35 +147,18 @@ one-output (printed a x) (printed b y) = let e = turns-one x y in ap₂ (λ (t :
 
 -- ==== the lines, one at a time
 
-line-with : (l s : List ℕ) → 0 < length (l ++ s) → linesWith l s ≡ (l ++ take (lineLength s) s) ∷ linesOf (drop (suc (lineLength s)) s)
-unfolding linesWith lineLength
-line-with [] [] h = absurd (omega arith)
-line-with (b ∷ l) [] h = ap (λ (x : List ℕ). x ∷ []) (sym (append-nil (b ∷ l)))
-line-with l (b ∷ s) h = go (eqb b lineFeed) (line-with (l ++ (b ∷ [])) s (simp length-append (omega arith)))
+-- what stands behind the line's line feed begins at the next place
+behind-line : (s : List ℕ) (end : ℕ) → drop (end + 1) s ≡ drop (behind (length s) end) s
+behind-line s end = go (ltb end (length s)) refl
   where
-    go : (t : Bool) → linesWith (l ++ (b ∷ [])) s ≡ (l ++ (b ∷ []) ++ take (lineLength s) s) ∷ linesOf (drop (suc (lineLength s)) s)
-        → cond t (l ∷ linesWith [] s) (linesWith (l ++ (b ∷ [])) s)
-        ≡ (l ++ take (cond t 0 (suc (lineLength s))) (b ∷ s)) ∷ linesOf (drop (suc (cond t 0 (suc (lineLength s)))) (b ∷ s))
-    go true e = ap (λ (x : List ℕ). x ∷ linesOf s) (sym (append-nil l))
-    go false e = e ∙ ap (λ (x : List ℕ). x ∷ linesOf (drop (suc (lineLength s)) s)) (append-snoc l b (take (lineLength s) s))
-
--- what follows the line begins at the next place
-behind-line : (s : List ℕ) (from k : ℕ) → drop (suc k) (drop from s) ≡ drop (behind (length s) (from + k)) s
-behind-line s from k = drop-drop (suc k) from s ∙ go (ltb (from + k) (length s)) refl
-  where
-    go : (t : Bool) → ltb (from + k) (length s) ≡ t → drop (from + suc k) s ≡ drop (cond t (from + k + 1) (from + k)) s
-    go true e = let n : from + suc k ≡ from + k + 1 = omega arith in ap (λ (i : ℕ). drop i s) n
+    go : (t : Bool) → ltb end (length s) ≡ t → drop (end + 1) s ≡ drop (cond t (end + 1) end) s
+    go true e = refl
     go false e =
-        let h : length s ≤ from + k = ltb-false (from + k) (length s) e in
-        drop-of-length-le s {i = from + suc k} (omega arith) ∙ sym (drop-of-length-le s h)
+        let h : length s ≤ end = ltb-false end (length s) e in
+        drop-of-length-le s {i = end + 1} (omega arith) ∙ sym (drop-of-length-le s h)
 
 first-line : (s : List ℕ) (from : ℕ) → from < length s → linesOf (drop from s) ≡ lineAt s from ∷ linesOf (drop (nextPlace s from) s)
-first-line s from h =
-    line-with [] (drop from s) (simp length-drop (omega arith)) ∙ ap (λ (r : List ℕ). lineAt s from ∷ linesOf r) (behind-line s from (lineLength (drop from s)))
-
-no-lines : (s : List ℕ) (from : ℕ) → length s ≤ from → linesOf (drop from s) ≡ []
-unfolding linesWith
-no-lines s from h = rw (drop-of-length-le s h)
+first-line s from h = lines.first-line s from h ∙ ap (λ (r : List ℕ). lineAt s from ∷ linesOf r) (behind-line s (from + lengthTo lineFeed (drop from s)))
 
 -- ==== what calls of `some_lines` print
 
@@ -181,7 +168,7 @@ Counted s from n = n + (length s - from) < 2 ^ 64
 
 next-counted : (s : List ℕ) (from n : ℕ) → from < length s → Counted s from n → (nextNumber n ≡ suc n) × Counted s (nextPlace s from) (suc n)
 next-counted s from n h c =
-    let k : from < nextPlace s from = further-on (length s) from (from + lineLength (drop from s)) h (omega arith) in
+    let k : from < nextPlace s from = further-on (length s) from (from + lengthTo lineFeed (drop from s)) h (omega arith) in
     (mod-eq-of-lt (omega arith) ∙ add-one n, omega arith)
 
 -- the lines that are printed from a place on are those printed by one call, and those from where it stopped
@@ -306,7 +293,7 @@ goes-forward (ended a) = omega arith
 goes-forward (no-room a b) = omega arith
 goes-forward (chunks.too-long a b c) = omega arith
 goes-forward {target} {mode} {s} (one-more {from = from} a b c p x) =
-    let k = further-on (length s) from (from + lineLength (drop from s)) a (omega arith) in
+    let k = further-on (length s) from (from + lengthTo lineFeed (drop from s)) a (omega arith) in
     omega (arith, goes-forward x)
 
 -- a call with room for a line goes on
@@ -315,7 +302,7 @@ call-goes-on h r (ended a) = absurd (omega arith)
 call-goes-on h r (no-room a b) = absurd (omega arith)
 call-goes-on h r (chunks.too-long a b c) = omega arith
 call-goes-on {target} {mode} {s} h r (one-more {from = from} a b c p x) =
-    let k = further-on (length s) from (from + lineLength (drop from s)) a (omega arith) in
+    let k = further-on (length s) from (from + lengthTo lineFeed (drop from s)) a (omega arith) in
     omega (arith, goes-forward x)
 
 -- so far: calls printed text, and what is called from here on goes behind it

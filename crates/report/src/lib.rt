@@ -7,17 +7,17 @@ use record::Target;
 use write::Written;
 ghost use mathlib.Core.Path.{_≡_};
 ghost use mathlib.Core.Bool.{_&&_};
-ghost use Prim.Native.Nat.{_+_, _≤_, _<_};
+ghost use Prim.Native.Nat.{_≤_, _<_};
 ghost use lib.Dec.{ltb, leb};
-ghost use lib.ListN.{length, drop};
+ghost use lib.ListN.{length};
 ghost use Rattle.record.specs.Refusals.{Legal};
 ghost use Rattle.record.specs.Registers.{Files, files};
 ghost use Rattle.rules.specs.Executing.{done, skipped, run};
-ghost use Rattle.rules.specs.StandardLine.{standard};
 ghost use Rattle.execute.specs.Answers as executed;
 ghost use Rattle.text.specs.Buffer.{buffer, Puts};
-ghost use Rattle.report.specs.Listing.{refusedText, placedText, executedText, listingLimit};
-ghost use Rattle.report.specs.Chunks.{lineLength, behind, lineRoom, PutsAnswer, PutsTurn, Prints};
+ghost use Rattle.lines.specs.Lines.{listingLimit};
+ghost use Rattle.report.specs.Listing.{refusedText, placedText, executedText};
+ghost use Rattle.report.specs.Chunks.{lineText, behind, lineRoom, PutsAnswer, PutsTurn, Prints};
 
 // At most so many bytes of a listing.
 const LISTING_LIMIT: usize = 65536;
@@ -39,9 +39,9 @@ pub struct Progress {
 
 // ---- one line
 
-fn put_standard(out: &mut [u8], at: usize, r: Record) -> usize
-    requires { ⌜ Legal r ⌝ }
-    ensures { λ m. ⌜ Puts (buffer (now (out .entry)) at) (standard r) (buffer (now (out .exit)) m) ⌝ }
+// The standard line; of a record that is not legal, nothing.
+pub fn put_standard(out: &mut [u8], at: usize, r: Record) -> usize
+    ensures { λ m. ⌜ Puts (buffer (now (out .entry)) at) (lineText r) (buffer (now (out .exit)) m) ⌝ }
 {
     let mut line = [0u8; STANDARD_ROOM];
     match write::write(r, &mut line) {
@@ -50,7 +50,8 @@ fn put_standard(out: &mut [u8], at: usize, r: Record) -> usize
     }
 }
 
-fn put_refused(out: &mut [u8], at: usize, n: u8) -> usize
+// `refused` and the number.
+pub fn put_refused(out: &mut [u8], at: usize, n: u8) -> usize
     ensures { λ m. ⌜ Puts (buffer (now (out .entry)) at) (refusedText n) (buffer (now (out .exit)) m) ⌝ }
 {
     let next = text::put(out, at, b"refused ");
@@ -156,21 +157,6 @@ fn put_line(
 
 // ---- the lines of a listing
 
-// Where the line that begins at `at` ends: at its line feed, or with the listing.
-fn line_end(s: &[u8], at: usize) -> usize
-    requires { ⌜ at ≤ length (now s) ⌝ }
-    ensures { λ m. ⌜ (m ≤ length (now (s .entry))) × (m ≡ at + lineLength (drop at (now (s .entry)))) ⌝ }
-{
-    let mut i = at;
-    while i < s.len() {
-        if s[i] == LINE_FEED {
-            return i;
-        }
-        i += 1;
-    }
-    i
-}
-
 fn next_place(s: &[u8], end: usize) -> usize
     requires { ⌜ end ≤ length (now s) ⌝ }
     ensures { λ m. ⌜ m ≡ behind (length (now (s .entry))) end ⌝ }
@@ -207,7 +193,7 @@ fn print_lines(
     let mut number = first;
     let mut used = 0;
     while goes_on(listing.len(), at, out.len() - used) {
-        let end = line_end(listing, at);
+        let end = lines::until(listing, at, LINE_FEED);
         used = put_line(
             target,
             mode,

@@ -1,30 +1,17 @@
-use Prim.Native.Nat.{_+_, _-_}
+use Prim.Native.Nat.{_-_}
 use native.Mathlib.Omega.{arith}
-use mathlib.Core.Path.{_≡_, ap, _∙_}
+use mathlib.Core.Path.{_≡_}
 use lib.ListN.{drop}
 use denote.Ref.{now}
 use Rattle.signs.specs.Bytes.{lineFeed}
-use Rattle.scan.specs.RunLaws.{part-rest}
-use Rattle.passlog.specs.Spelling.{lengthTo}
+use Rattle.lines.specs.Until.{lengthTo}
 use Rattle.passlog.specs.StepLaws.{line-logged}
 use borrow.Author.Needs.{needs}
 use Rattle.passlog.proofs.log_one.Statement.{statement}
 use Rattle.passlog.proofs.log_one.Tie as tie
 
-sub-until : tie.Need-sub-until
-sub-until c = search needs
-
-part-until-start : tie.Need-part-until-start
-part-until-start c = search needs
-
-part-until-end : tie.Need-part-until-end
-part-until-end c = search needs
-
 until-requires : tie.Need-until-requires
 until-requires c κs = search needs
-
-add-end : tie.Need-add-end
-add-end c = search needs
 
 sub-put-line : tie.Need-sub-put-line
 sub-put-line c = search needs
@@ -38,8 +25,8 @@ part-put-line-end c = search needs
 put-line-requires : tie.Need-put-line-requires
 put-line-requires c κs = search needs
 
-add-t12 : tie.Need-add-t12
-add-t12 c = search needs
+add-t13 : tie.Need-add-t13
+add-t13 c = search needs
 
 wrapping-add-u64-requires : tie.Need-wrapping-add-u64-requires
 wrapping-add-u64-requires c κs = search needs
@@ -49,25 +36,19 @@ same-length c = search needs
 
 returns : tie.Need-returns
 returns c =
-    let u : c .before .before .before .before .before .before .before .until .result ≡ lengthTo lineFeed (drop (c .before .before .before .before .before .before .before .before .before .before .before .args .from) (now (c .before .before .before .before .before .before .before .before .before .before .before .args .input))) =
-    c .before .before .before .before .before .before .before .until .ensures .1 ∙ ap (lengthTo lineFeed) (part-rest (c .before .before .before .before .before .before .before .before .before .before .before .args .from) (now (c .before .before .before .before .before .before .before .before .before .before .before .args .input))) in
-    let q : c .before .before .before .before .before .before .before .before .before .before .before .args .from + c .before .before .before .before .before .before .before .until .result - c .before .before .before .before .before .before .before .before .before .before .before .args .from ≡ lengthTo lineFeed (drop (c .before .before .before .before .before .before .before .before .before .before .before .args .from) (now (c .before .before .before .before .before .before .before .before .before .before .before .args .input))) = omega (arith, u) in
-    rw (c .wrapping-add-u64 .ensures, u) (line-logged (c .before .before .before .before .before .before .before .before .before .before .before .pre .0) (c .before .before .before .before .before .before .before .before .before .before .before .pre .1) (c .before .before .before .before .before .before .before .before .before .before .before .pre .2) (search needs) (rw q at (c .before .before .before .before .put-line .ensures)))
+    let q : c .before .before .before .before .before .before .before .until .result - c .before .before .before .before .before .before .before .before .before .before .args .from ≡ lengthTo lineFeed (drop (c .before .before .before .before .before .before .before .before .before .before .args .from) (now (c .before .before .before .before .before .before .before .before .before .before .args .input))) = omega (arith, c .before .before .before .before .before .before .before .until .ensures .0) in
+    rw (c .wrapping-add-u64 .ensures, c .before .before .before .before .before .before .before .until .ensures .0) (line-logged (c .before .before .before .before .before .before .before .before .before .before .pre .0) (c .before .before .before .before .before .before .before .before .before .before .pre .1) (c .before .before .before .before .before .before .before .before .before .before .pre .2) (search needs) (rw q at (c .before .before .before .before .put-line .ensures)))
 
 pub log-one-spec : {M : Type 1} → statement M
 log-one-spec =
     tie.close
     (tie.spec
-    sub-until
-    part-until-start
-    part-until-end
     until-requires
-    add-end
     sub-put-line
     part-put-line-start
     part-put-line-end
     put-line-requires
-    add-t12
+    add-t13
     wrapping-add-u64-requires
     same-length
     returns)

@@ -4,7 +4,7 @@ use mathlib.Core.Path.{_≡_, ap, _∙_}
 use lib.ListN.{drop}
 use denote.Ref.{now}
 use Rattle.signs.specs.Bytes.{spaceByte}
-use Rattle.passlog.specs.Spelling.{lengthTo}
+use Rattle.lines.specs.Until.{lengthTo}
 use borrow.Author.Needs.{needs}
 use Rattle.passlog.proofs.rest.Statement.{statement}
 use Rattle.passlog.proofs.rest.Tie as tie
@@ -20,7 +20,7 @@ rest-requires c κs = search needs
 
 returns : tie.Need-returns
 returns c =
-    let e : c .before .until .result + 1 ≡ suc (lengthTo spaceByte (now (c .before .before .before .args .s))) = omega (arith, c .before .until .ensures .1) in
+    let e : c .before .until .result + 1 ≡ suc (lengthTo spaceByte (now (c .before .before .before .args .s))) = omega (arith, c .before .until .ensures .0) in
     c .rest .ensures ∙ ap (λ (n : ℕ). drop n (now (c .before .before .before .args .s))) e
 
 pub rest-spec : {M : Type 1} → statement M

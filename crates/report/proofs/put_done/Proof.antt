@@ -16,7 +16,7 @@ same-length : tie.Need-same-length
 same-length c = search needs
 
 returns : tie.Need-returns
-returns c = c .before .before .before .before .before .before .put .ensures then c .before .before .put-standard .ensures
+returns c = c .before .before .before .before .before .before .put .ensures then rw (c .before .before .before .before .before .before .before .before .before .before .pre) at (c .before .before .put-standard .ensures)
 
 pub put-done-spec : {M : Type 1} → statement M
 put-done-spec =

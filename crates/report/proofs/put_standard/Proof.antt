@@ -1,8 +1,8 @@
 use native.Mathlib.Nat.{sub-zero}
 use native.Mathlib.Omega.{arith}
-use Rattle.laws.specs.LineLengths.{standard-fits}
+use Rattle.text.specs.Buffer.{same}
 use mathlib.Core.Path.{refl}
-use Rattle.report.proofs.Laws.{wrote-length, wrote-text, not-refused}
+use Rattle.report.proofs.Laws.{wrote-within, wrote-text, refused-text}
 use borrow.Author.Needs.{needs}
 use Rattle.report.proofs.put_standard.Statement.{statement}
 use Rattle.report.proofs.put_standard.Tie as tie
@@ -24,8 +24,7 @@ part-put-start c = search needs
 
 part-put-end : tie.Need-part-put-end
 part-put-end c =
-    let e = wrote-length _ _ _ (c .before .before .before .before .before .before .before .before .before .pre) refl _ (rw (c .before .before .before .n .given .1) at (c .before .before .before .before .before .before .write .ensures)) in
-    omega (arith, standard-fits _ (c .before .before .before .before .before .before .before .before .before .pre))
+    omega (arith, wrote-within _ _ _ refl _ (rw (c .before .before .before .n .given .1) at (c .before .before .before .before .before .before .write .ensures)))
 
 put-requires : tie.Need-put-requires
 put-requires c κs = search needs
@@ -39,10 +38,10 @@ same-length c = search needs
 returns : tie.Need-returns
 returns c =
     let e = rw (c .before .before .before .before .before .before .before .n .given .1) at (c .before .before .before .before .before .before .before .before .before .before .write .ensures) in
-    rw (sub-zero, wrote-text _ _ _ (c .before .before .before .before .before .before .before .before .before .before .before .before .before .pre) refl _ e) at (c .before .before .put .ensures)
+    rw (sub-zero, wrote-text _ _ _ refl _ e) at (c .before .before .put .ensures)
 
 returns-2 : tie.Need-returns-2
-returns-2 c = absurd (not-refused _ _ _ (c .before .before .before .before .before .before .pre) refl _ (rw (c .enum-told .given .1) at (c .before .before .before .write .ensures)))
+returns-2 c = rw (← refused-text _ _ _ refl _ (rw (c .enum-told .given .1) at (c .before .before .before .write .ensures))) (same _)
 
 pub put-standard-spec : {M : Type 1} → statement M
 put-standard-spec =

@@ -1,0 +1,14 @@
+-- No two outcomes satisfy a contract as it stands in src/lib.rt.
+use Prim.Native.Nat.{ℕ}
+use mathlib.Core.Path.{_≡_}
+use contract.Lifetimes.{Lfts}
+use borrow.Fn.Kinds.{Dens, endedOf}
+use denote.Triple.Clauses.{AtExit}
+use Rattle.base.specs.Promise.{one-outcome}
+use Rattle.lines.proofs.until.Kinds as until-kinds
+use Rattle.lines.proofs.until.Reads as until
+
+pub until-one-outcome :
+    (κs : Lfts 1) (a : Dens κs until-kinds.ps) (x y : ℕ) (s t : AtExit (endedOf 1 until-kinds.ps until-kinds.r) κs)
+    → until.Post κs a x s → until.Post κs a y t → x ≡ y
+until-one-outcome κs a x y s t p q = one-outcome (p .0) (q .0)

@@ -1,0 +1,135 @@
+-- How a listing divides into lines: its first line, whole lines before others, one line more. Assumes nothing.
+use Prim.Native.Nat.{ℕ, suc, _+_, _≤_, _<_}
+use native.Mathlib.Numerals.{add-one}
+use native.Mathlib.Omega.{arith}
+use mathlib.Core.Path.{_≡_, refl, sym, ap, _∙_}
+use mathlib.Core.Bool.{Bool, true, false, not, cond}
+use mathlib.Core.List.{List, [], _∷_, _++_, append-assoc, append-nil}
+use lib.Dec.{eqb}
+use lib.ListN.{length, take, drop, getD, length-append, length-drop, drop-of-length-le}
+use lib.Seq.{drop-drop, drop-cons, append-snoc}
+use borrow.Author.Tests.{eq-eqb, ne-eqb, not-true}
+use Rattle.signs.specs.Bytes.{lineFeed, All}
+use Rattle.signs.specs.Bytes as bytes
+use Rattle.lines.specs.Lines.{lastLine, linesWith, linesOf, Ended, feed, more, WholeLines, no-line, some-lines}
+use Rattle.lines.specs.Until.{lengthTo, before, behind}
+
+-- ==== where a byte stands
+
+module _ (b : ℕ) (s : List ℕ) (i at : ℕ) where
+  pub to-end : length s ≤ i → i + lengthTo b (drop i s) ≡ at → i ≡ at
+  unfolding lengthTo
+  to-end h e = let k : lengthTo b (drop i s) ≡ 0 = rw (drop-of-length-le s h) in omega arith
+
+  pub to-here : i < length s → getD s i 0 ≡ b → i + lengthTo b (drop i s) ≡ at → i ≡ at
+  unfolding lengthTo
+  to-here h q e = let k : lengthTo b (drop i s) ≡ 0 = rw (drop-cons s i 0 h, eq-eqb (getD s i 0) b q) in omega arith
+
+  pub to-next : i < length s → (getD s i 0 ≡ b → ⊥) → i + lengthTo b (drop i s) ≡ at → i + 1 + lengthTo b (drop (i + 1) s) ≡ at
+  unfolding lengthTo
+  to-next h q e =
+      let k : lengthTo b (drop i s) ≡ suc (lengthTo b (drop (suc i) s)) = rw (drop-cons s i 0 h, ne-eqb (getD s i 0) b q) in
+      rw (add-one i) (omega arith)
+
+-- ==== the first line
+
+line-with : (l s : List ℕ) → 0 < length (l ++ s) → linesWith l s ≡ (l ++ before lineFeed s) ∷ linesOf (behind lineFeed s)
+unfolding linesWith lengthTo
+line-with [] [] h = absurd (omega arith)
+line-with (b ∷ l) [] h = ap (λ (x : List ℕ). x ∷ []) (sym (append-nil (b ∷ l)))
+line-with l (b ∷ s) h = go (eqb b lineFeed) (line-with (l ++ (b ∷ [])) s (simp length-append (omega arith)))
+  where
+    go : (t : Bool) → linesWith (l ++ (b ∷ [])) s ≡ (l ++ (b ∷ []) ++ before lineFeed s) ∷ linesOf (behind lineFeed s)
+        → cond t (l ∷ linesWith [] s) (linesWith (l ++ (b ∷ [])) s)
+        ≡ (l ++ take (cond t 0 (suc (lengthTo lineFeed s))) (b ∷ s)) ∷ linesOf (drop (suc (cond t 0 (suc (lengthTo lineFeed s)))) (b ∷ s))
+    go true e = ap (λ (x : List ℕ). x ∷ linesOf s) (sym (append-nil l))
+    go false e = e ∙ ap (λ (x : List ℕ). x ∷ linesOf (behind lineFeed s)) (append-snoc l b (before lineFeed s))
+
+-- from a place on: the line that begins there, and the lines from behind its line feed on
+pub first-line : (s : List ℕ) (from : ℕ) → from < length s
+    → linesOf (drop from s) ≡ before lineFeed (drop from s) ∷ linesOf (drop (from + lengthTo lineFeed (drop from s) + 1) s)
+first-line s from h =
+    let e : from + suc (lengthTo lineFeed (drop from s)) ≡ from + lengthTo lineFeed (drop from s) + 1 = omega arith in
+    line-with [] (drop from s) (omega (arith, length-drop from s))
+    ∙ ap (λ (x : List ℕ). before lineFeed (drop from s) ∷ linesOf x) (drop-drop (suc (lengthTo lineFeed (drop from s))) from s ∙ ap (λ (k : ℕ). drop k s) e)
+
+pub no-lines : (s : List ℕ) (from : ℕ) → length s ≤ from → linesOf (drop from s) ≡ []
+unfolding linesWith
+no-lines s from h = rw (drop-of-length-le s h)
+
+-- ==== whole lines before others
+
+ended-lines : {p : List ℕ} → Ended p → (l t : List ℕ) → linesWith l (p ++ t) ≡ linesWith l p ++ linesOf t
+unfolding linesWith
+ended-lines feed l t = refl
+ended-lines (more {b = b} {p = p} q) l t = go (eqb b lineFeed) (ended-lines q [] t) (ended-lines q (l ++ (b ∷ [])) t)
+  where
+    go : (x : Bool) → linesWith [] (p ++ t) ≡ linesWith [] p ++ linesOf t
+        → linesWith (l ++ (b ∷ [])) (p ++ t) ≡ linesWith (l ++ (b ∷ [])) p ++ linesOf t
+        → cond x (l ∷ linesWith [] (p ++ t)) (linesWith (l ++ (b ∷ [])) (p ++ t)) ≡ cond x (l ∷ linesWith [] p) (linesWith (l ++ (b ∷ [])) p) ++ linesOf t
+    go true i j = ap (_∷_ l) i
+    go false i j = j
+
+pub whole-lines : {p : List ℕ} → WholeLines p → (t : List ℕ) → linesOf (p ++ t) ≡ linesOf p ++ linesOf t
+unfolding linesWith
+whole-lines no-line t = refl
+whole-lines (some-lines e) t = ended-lines e [] t
+
+-- a line feed behind anything makes whole lines of it
+ended-by : (q : List ℕ) → Ended (q ++ (lineFeed ∷ []))
+ended-by [] = feed
+ended-by (b ∷ q) = more (ended-by q)
+
+pub whole-by : (q : List ℕ) (b : ℕ) → b ≡ lineFeed → WholeLines (q ++ (b ∷ []))
+whole-by q b e = rw e (some-lines (ended-by q))
+
+-- ==== how many bytes whole lines take: each has a line feed
+
+abbrev pub widths : List (List ℕ) → ℕ
+widths [] = 0
+widths (l ∷ ls) = length l + 1 + widths ls
+
+ended-widths : {p : List ℕ} → Ended p → (l : List ℕ) → widths (linesWith l p) ≡ length l + length p
+unfolding linesWith
+ended-widths feed l = omega arith
+ended-widths (more {b = b} {p = p} q) l = go (eqb b lineFeed) (ended-widths q []) (ended-widths q (l ++ (b ∷ [])))
+  where
+    go : (x : Bool) → widths (linesWith [] p) ≡ 0 + length p → widths (linesWith (l ++ (b ∷ [])) p) ≡ length (l ++ (b ∷ [])) + length p
+        → widths (cond x (l ∷ linesWith [] p) (linesWith (l ++ (b ∷ [])) p)) ≡ length l + length (b ∷ p)
+    go true i j = omega (arith, i)
+    go false i j = omega (arith, j, length-append l (b ∷ []))
+
+pub whole-widths : {p : List ℕ} → WholeLines p → widths (linesOf p) ≡ length p
+unfolding linesWith
+whole-widths no-line = refl
+whole-widths (some-lines e) = omega (arith, ended-widths e [])
+
+-- ==== one line
+
+-- no byte of it is a line feed
+abbrev pub noFeed : ℕ → Bool
+noFeed b = not (eqb b lineFeed)
+
+pub plain-by : {w : List ℕ} → All noFeed w → (b : ℕ) → noFeed b ≡ true → All noFeed (w ++ (b ∷ []))
+plain-by bytes.none b h = bytes.more h bytes.none
+plain-by (bytes.more k p) b h = bytes.more k (plain-by p b h)
+
+plain-line : {w : List ℕ} → All noFeed w → (l : List ℕ) → linesWith l (w ++ (lineFeed ∷ [])) ≡ (l ++ w) ∷ []
+unfolding linesWith
+plain-line bytes.none l = rw (append-nil l)
+plain-line (bytes.more {b = c} {w = w} h p) l =
+    rw (not-true (eqb c lineFeed) h) (plain-line p (l ++ (c ∷ [])) ∙ ap (λ (x : List ℕ). x ∷ []) (append-assoc l (c ∷ []) w))
+
+pub one-line : {w : List ℕ} → All noFeed w → (b : ℕ) → b ≡ lineFeed → linesOf (w ++ (b ∷ [])) ≡ w ∷ []
+one-line p b e = rw e (plain-line p [])
+
+plain-last : {w : List ℕ} → All noFeed w → (l : List ℕ) → linesWith l w ≡ lastLine (l ++ w)
+unfolding linesWith
+plain-last bytes.none l = ap lastLine (sym (append-nil l))
+plain-last (bytes.more {b = c} {w = w} h p) l =
+    rw (not-true (eqb c lineFeed) h) (plain-last p (l ++ (c ∷ [])) ∙ ap lastLine (append-assoc l (c ∷ []) w))
+
+-- a last one without a line feed
+pub last-line : (w : List ℕ) → All noFeed w → 0 < length w → linesOf w ≡ w ∷ []
+last-line [] p h = absurd (omega arith)
+last-line (b ∷ w) p h = plain-last p []

@@ -1,0 +1,19 @@
+// The lines of a listing: definitions and laws (specs/), and where a byte stands next.
+ghost use mathlib.Core.Path.{_≡_};
+ghost use Prim.Native.Nat.{_+_, _-_, _≤_};
+ghost use lib.ListN.{length, drop};
+ghost use Rattle.lines.specs.Until.{lengthTo};
+
+// Where the first b stands from `at` on, or the end.
+pub fn until(s: &[u8], at: usize, b: u8) -> usize
+    ensures { λ r. ⌜ (r ≡ at + lengthTo b (drop at (now (s .entry)))) × (r ≤ at + (length (now (s .entry)) - at)) ⌝ }
+{
+    let mut i = at;
+    while i < s.len() {
+        if s[i] == b {
+            return i;
+        }
+        i += 1;
+    }
+    i
+}
