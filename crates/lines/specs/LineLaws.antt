@@ -8,7 +8,7 @@ use mathlib.Core.List.{List, [], _∷_, _++_, append-assoc, append-nil}
 use lib.Dec.{eqb}
 use lib.ListN.{length, take, drop, getD, length-append, length-drop, drop-of-length-le}
 use lib.Seq.{drop-drop, drop-cons, append-snoc}
-use borrow.Author.Tests.{eq-eqb, ne-eqb, not-true}
+use borrow.Author.Tests.{eq-eqb, ne-eqb, eqb-true, not-true}
 use Rattle.signs.specs.Bytes.{lineFeed, All}
 use Rattle.signs.specs.Bytes as bytes
 use Rattle.lines.specs.Lines.{lastLine, linesWith, linesOf, Ended, feed, more, WholeLines, no-line, some-lines}
@@ -133,3 +133,62 @@ plain-last (bytes.more {b = c} {w = w} h p) l =
 pub last-line : (w : List ℕ) → All noFeed w → 0 < length w → linesOf w ≡ w ∷ []
 last-line [] p h = absurd (omega arith)
 last-line (b ∷ w) p h = plain-last p []
+
+-- ==== where a line stands
+
+pub whole-append : {p q : List ℕ} → WholeLines p → WholeLines q → WholeLines (p ++ q)
+whole-append no-line w = w
+whole-append {p} {q} (some-lines e) no-line = rw (append-nil p) (some-lines e)
+whole-append (some-lines e) (some-lines f) = some-lines (behind-ended e f)
+  where
+    behind-ended : {p q : List ℕ} → Ended p → Ended q → Ended (p ++ q)
+    behind-ended feed f = more f
+    behind-ended (more e) f = more (behind-ended e f)
+
+-- a line with lines behind it ended at a line feed
+record Cut (acc s x : List ℕ) (zs : List (List ℕ)) : Type 0 where
+  line : List ℕ
+  rest : List ℕ
+  whole : s ≡ line ++ (lineFeed ∷ rest)
+  is : acc ++ line ≡ x
+  behind-it : linesOf rest ≡ zs
+
+cut : (acc s x : List ℕ) (zs : List (List ℕ)) → 0 < length zs → linesWith acc s ≡ x ∷ zs → Cut acc s x zs
+unfolding linesWith
+cut [] [] x zs h e = let z : _≡_ {A = ℕ} 0 1 = cc in absurd (omega arith)
+cut (b ∷ l) [] x zs h e =
+    let z : [] ≡ zs = cc in
+    absurd (omega (arith, ap length z))
+cut acc (b ∷ s) x zs h e = go (eqb b lineFeed) refl e (cut (acc ++ (b ∷ [])) s x zs h)
+  where
+    go : (t : Bool) → eqb b lineFeed ≡ t → cond t (acc ∷ linesWith [] s) (linesWith (acc ++ (b ∷ [])) s) ≡ x ∷ zs
+        → (linesWith (acc ++ (b ∷ [])) s ≡ x ∷ zs → Cut (acc ++ (b ∷ [])) s x zs) → Cut acc (b ∷ s) x zs
+    go true q j k =
+        let f : b ≡ lineFeed = eqb-true b lineFeed q in
+        record { line = []; rest = s; whole = ap (λ (y : ℕ). y ∷ s) f; is = append-nil acc ∙ cc; behind-it = cc }
+    go false q j k =
+        let c = k j in
+        record { line = b ∷ c .line; rest = c .rest; whole = ap (_∷_ b) (c .whole); is = sym (append-assoc acc (b ∷ []) (c .line)) ∙ c .is; behind-it = c .behind-it }
+
+-- whole lines, and behind them a listing that begins with the line
+pub record Standing (s : List ℕ) (xs zs : List (List ℕ)) : Type 0 where
+  pub before-it : List ℕ
+  pub from-it : List ℕ
+  pub both : s ≡ before-it ++ from-it
+  pub whole : WholeLines before-it
+  pub lines : linesOf from-it ≡ zs
+  pub wide : length before-it ≡ widths xs
+
+pub standing : (xs : List (List ℕ)) (s : List ℕ) (zs : List (List ℕ)) → 0 < length zs → linesOf s ≡ xs ++ zs → Standing s xs zs
+standing [] s zs h e = record { before-it = []; from-it = s; both = refl; whole = no-line; lines = e; wide = refl }
+standing (x ∷ xs) s zs h e =
+    let c = cut [] s x (xs ++ zs) (rw (length-append xs zs) (omega arith)) e in
+    let f = standing xs (c .rest) zs h (c .behind-it) in
+    record {
+      before-it = (c .line ++ (lineFeed ∷ [])) ++ f .before-it;
+      from-it = f .from-it;
+      both = c .whole ∙ ap (λ (y : List ℕ). c .line ++ (lineFeed ∷ y)) (f .both) ∙ sym (append-assoc (c .line) (lineFeed ∷ []) (f .before-it ++ f .from-it)) ∙ sym (append-assoc (c .line ++ (lineFeed ∷ [])) (f .before-it) (f .from-it));
+      whole = whole-append (whole-by (c .line) lineFeed refl) (f .whole);
+      lines = f .lines;
+      wide = length-append (c .line ++ (lineFeed ∷ [])) (f .before-it) ∙ omega (arith, f .wide, length-append (c .line) (lineFeed ∷ []), ap length (c .is));
+    }
