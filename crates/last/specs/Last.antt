@@ -73,6 +73,10 @@ lastOf answer s n =
     (cond (leb wordCount n) (refused-by 6)
     (told (lastIn answer n (length s) 0 (linesOf s))))
 
+-- The answer equals that of a full reading from the front
+abbrev pub IsLast : List ℕ → ℕ → Answer → Type 0
+IsLast s n a = (answer : List ℕ → reading.Answer) → FullReading answer → a ≡ lastOf answer s n
+
 -- what each answer of `last_writer` says in these words and numbers
 abbrev pub answerOf : Last → Answer
 answerOf (Distance d) = distance d

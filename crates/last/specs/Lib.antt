@@ -1,5 +1,6 @@
 pub mod Last
+pub mod LastIs
 pub mod Back
 pub mod BackLaws
 pub mod LastLaws
-pub mod LastIs
+pub mod LastIsLaws

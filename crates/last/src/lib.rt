@@ -9,13 +9,12 @@ use record::Operand;
 use record::Target;
 use record::Word;
 ghost use mathlib.Core.Path.{_≡_};
-ghost use mathlib.Core.List.{List, [], _∷_};
-ghost use Prim.Native.Nat.{ℕ, _-_, _≤_, _<_};
+ghost use mathlib.Core.List.{[], _∷_};
+ghost use Prim.Native.Nat.{_-_, _≤_, _<_};
 ghost use lib.ListN.{length};
 ghost use Rattle.record.specs.Registers.{operandPlace};
-ghost use Rattle.rules.specs.Reading as reading;
 ghost use Rattle.rules.specs.Executing.{formD, destinationPlaces, destinations};
-ghost use Rattle.last.specs.Last.{hasWord, FullReading, told, answerOf, lastOf};
+ghost use Rattle.last.specs.Last.{hasWord, told, IsLast, answerOf};
 ghost use Rattle.last.specs.Back.{hasHere, lineEnd, lineStart, lineBack, goesOn, foundAt, lastBeyond};
 
 // At most so many bytes of a listing.
@@ -259,9 +258,9 @@ fn search(listing: &[u8], n: u16) -> Last
 
 // ---- the entry point
 
-// By whatever full reading, the answer is that of reading all of the listing from the front.
+// The answer is that of reading all of the listing from the front.
 pub fn last_writer(listing: &[u8], register: Word) -> Last
-    ensures { λ x. ⌜ ((answer : List ℕ → reading.Answer) → FullReading answer → answerOf x ≡ lastOf answer (now (listing .entry)) (register .0)) ⌝ }
+    ensures { λ x. ⌜ IsLast (now (listing .entry)) (register .0) (answerOf x) ⌝ }
 {
     let n = register.0;
     let too_long = LISTING_LIMIT < listing.len();
