@@ -21,7 +21,7 @@ use Rattle.rules.specs.Reading.{Answers, read, refused, refused-at}
 use Rattle.rules.specs.Reading as reading
 use Rattle.lines.specs.Lines.{linesOf, listingLimit, WholeLines}
 use Rattle.lines.specs.LineLaws.{widths, whole-lines, whole-widths, whole-append, standing}
-use Rattle.last.specs.Last.{isWord, hasWord, hasDestination, FullReading, later, lastIn, Answer, distance, none-has, refused-by, told, lastOf}
+use Rattle.last.specs.Last.{isWord, hasWord, hasDestination, FullReading, later, lastIn, Answer, distance, none-has, refused-by, told, lastOf, IsLast}
 use Rattle.last.specs.Back.{answerHere, hasHere}
 use Rattle.last.specs.BackLaws.{last-append}
 use Rattle.last.specs.LastIs.{Has, NoneHas, LastIs, too-long, no-register, nowhere, at-distance}
@@ -155,6 +155,13 @@ module _ (answer : List ℕ → reading.Answer) (full : FullReading answer) wher
           ∙ last-append answerHere n (length s) 0 (linesOf p) (l ∷ ls)
           ∙ ap (λ (y : Option ℕ). later y (lastIn answerHere n (length s) 0 (linesOf p))) (one-found n (length s) (0 + widths (linesOf p)) l ls m z)
           ∙ ap some d))
+
+-- so the full reading and the relation say the same
+pub as-relation : {s : List ℕ} {n : ℕ} {a : Answer} → IsLast s n a → LastIs s n a
+as-relation {s} {n} {a} h = subst (LastIs s n) (sym (h answerHere readOf-full)) (last-is answerHere readOf-full s n)
+
+pub as-reading : {s : List ℕ} {n : ℕ} {a : Answer} → LastIs s n a → IsLast s n a
+as-reading x = λ answer full. sym (last-only answer full x)
 
 pub one-last : {s : List ℕ} {n : ℕ} {a b : Answer} → LastIs s n a → LastIs s n b → a ≡ b
 one-last x y = sym (last-only answerHere readOf-full x) ∙ last-only answerHere readOf-full y

@@ -10,7 +10,7 @@ use record::Target;
 use record::Word;
 ghost use mathlib.Core.Path.{_≡_};
 ghost use mathlib.Core.List.{[], _∷_};
-ghost use Prim.Native.Nat.{_-_, _≤_, _<_};
+ghost use Prim.Native.Nat.{_≤_, _<_};
 ghost use lib.ListN.{length};
 ghost use Rattle.record.specs.Registers.{operandPlace};
 ghost use Rattle.rules.specs.Executing.{formD, destinationPlaces, destinations};
@@ -160,34 +160,24 @@ fn line_start(s: &[u8], end: usize) -> usize
     0
 }
 
-// What is left of so many bytes when so many are gone.
-fn left(size: usize, gone: usize) -> usize
-    ensures { λ r. ⌜ r ≡ size - gone ⌝ }
-{
-    if gone < size {
-        return size - gone;
-    }
-    0
-}
-
 // How far from the end the line begins that stands before the last `gone` bytes.
 fn line_back(s: &[u8], gone: usize) -> usize
     ensures { λ r. ⌜ r ≡ lineBack (now (s .entry)) gone ⌝ }
 {
     let size = s.len();
-    let at = left(size, gone);
+    let at = lines::left(size, gone);
     if at == 0 {
         return size;
     }
     let end = line_end(s, at);
-    left(size, line_start(s, end))
+    lines::left(size, line_start(s, end))
 }
 
 // Whether there is such a line and it has not that destination.
 fn passes(s: &[u8], gone: usize, n: u16) -> bool
     ensures { λ r. ⌜ r ≡ goesOn (now (s .entry)) gone n ⌝ }
 {
-    let at = left(s.len(), gone);
+    let at = lines::left(s.len(), gone);
     if at == 0 {
         return false;
     }

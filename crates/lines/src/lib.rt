@@ -1,4 +1,4 @@
-// The lines of a listing: definitions and laws (specs/), and where a byte stands next.
+// The lines of a listing: definitions and laws (specs/); where a byte stands next, and what is left.
 ghost use mathlib.Core.Path.{_≡_};
 ghost use Prim.Native.Nat.{_+_, _-_, _≤_};
 ghost use lib.ListN.{length, drop};
@@ -16,4 +16,14 @@ pub fn until(s: &[u8], at: usize, b: u8) -> usize
         i += 1;
     }
     i
+}
+
+// What is left of so many bytes when so many are gone.
+pub fn left(size: usize, gone: usize) -> usize
+    ensures { λ r. ⌜ r ≡ size - gone ⌝ }
+{
+    if gone < size {
+        return size - gone;
+    }
+    0
 }

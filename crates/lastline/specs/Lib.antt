@@ -1,0 +1,3 @@
+pub mod LastText
+pub mod Steps
+pub mod TextLaws
