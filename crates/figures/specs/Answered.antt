@@ -2,7 +2,7 @@
 -- than one applies. One list with one claim. Then whole listings, document 01's own, one at each target and one in each mode, with what is printed of them, and their claim.
 use Prim.Native.Nat.{ℕ}
 use Prim.Native.String.{String}
-use mathlib.Core.Path.{_≡_, refl, subst}
+use mathlib.Core.Path.{_≡_, refl, sym, subst, _∙_}
 use mathlib.Core.Bool.{true}
 use mathlib.Core.List.{List, [], _∷_, _++_, map}
 use lib.ListN.{length, replicate}
@@ -55,6 +55,10 @@ use Rattle.fillplace.specs.Tries.{isFilled, beginsFilled, operandPlaceOf}
 use Rattle.places.specs.Mirror.{modifierPlaceOf, operandIndexOf, legalPlaceOf, guardPlaceOf, partsPlaceOf, placeOf}
 use Rattle.read.specs.Mirror.{candidateOf, verdictOf, refusedBy, readOf}
 use Rattle.read.specs.Answering.{answers}
+use Rattle.last.specs.Last.{lastIn, lastOf, IsLast}
+use Rattle.last.specs.Last as last
+use Rattle.last.specs.Back.{answerHere}
+use Rattle.last.specs.LastLaws.{same-last}
 use Rattle.figures.specs.Lines.{exampleVset4, exampleSetp, exampleSelp, highestWord, halfSelp, halfSet, doubleSet, bitsSelp, flushedSlct, sameVset4, apartVset4, apartVset2, sameVadd4, sameVset}
 
 pub record Answered : Type 0 where
@@ -339,13 +343,77 @@ listings =
 
 -- ==== the claims
 
--- the reader's stages give each line its answer, and the listings are printed by them; together, so that the stages are named once
+-- ==== T-11: who wrote it last
+
+pub record Question : Type 0 where
+  pub listing : List ℕ
+  pub register : ℕ
+  pub answer : last.Answer
+
+abbrev asks : List ℕ → ℕ → last.Answer → Question
+asks s n a = record { listing = s; register = n; answer = a }
+
+-- examples/who-wrote.ptx: 216 bytes, the last two lines 38 and 32 of them. A comma is missing in the second line; the guard of the fifth is false
+abbrev fiveLines : List ℕ
+fiveLines =
+    text
+    ("vset4.u32.u32.ge.add %r51, %r40, %r32, %r0;"
+    ∷ "vset4.u32.u32.ge.add %r51, %r41, %r32 %r51;"
+    ∷ "setp.ge.u32 %p1, %r51, %r8;"
+    ∷ "selp.u32 %r52, %r1, %r0, %p1;"
+    ∷ "@%p1  slct.u32.s32 %r52,%r2,%r0,%r51;"
+    ∷ [])
+
+abbrev sixthLine : List ℕ
+sixthLine = bytes "selp.b64 %rd8, %rd1, %rd2, %p1;"
+
+abbrev whoWrote : List ℕ
+whoWrote = fiveLines ++ sixthLine ++ (lineFeed ∷ [])
+
+-- lines of 32, 31, 38, 30, 27, 32 and 42 bytes
+abbrev kindsOfLines : List ℕ
+kindsOfLines =
+    text
+    ("vadd.u32.u32.u32 %r1, %r2, %r3;"
+    ∷ "vset.u32.u32.lt %r2, %r3, %r4;"
+    ∷ "vadd4.u32.u32.u32 %r3, %r4, %r5, %r6;"
+    ∷ "set.lt.u32.u32 %r4, %r5, %r6;"
+    ∷ "setp.lt.u32 %p5, %r6, %r7;"
+    ∷ "selp.b16 %rs6, %rs7, %rs8, %p1;"
+    ∷ "  @!%p1 slct.s32.f32 %r7, %r8, %r9, %r10;"
+    ∷ [])
+
+unfoldable pub questions : List Question
+questions =
+    -- the refused line does not count, the skipped one does, and it is the last of two; without the last line feed it is a byte nearer to the end
+    asks whoWrote 51 (last.distance 216)
+    ∷ asks whoWrote 52 (last.distance 70)
+    ∷ asks (fiveLines ++ sixthLine) 52 (last.distance 69)
+    -- a source is no destination, and `%rd8` is not `%r8`
+    ∷ asks whoWrote 8 last.none-has
+    -- d of each kind of line; leading blanks are part of the line; `%p5` and `%rs6` are not `%r5` and `%r6`
+    ∷ asks kindsOfLines 1 (last.distance 232)
+    ∷ asks kindsOfLines 2 (last.distance 200)
+    ∷ asks kindsOfLines 3 (last.distance 169)
+    ∷ asks kindsOfLines 4 (last.distance 131)
+    ∷ asks kindsOfLines 5 last.none-has
+    ∷ asks kindsOfLines 6 last.none-has
+    ∷ asks kindsOfLines 7 (last.distance 42)
+    -- no line at all; a register over 63, the last that is none
+    ∷ asks [] 63 last.none-has
+    ∷ asks [] 64 (last.refused-by 6)
+    ∷ asks whoWrote 64 (last.refused-by 6)
+    ∷ []
+
+-- the reader's stages give each line its answer, the listings are printed by them, and the questions are answered by them; together, so that the stages are
+-- named once
 answered-computed :
     (map (λ (x : Answered). readOf (x .target) (x .mode) (x .line)) answered ≡ map (λ (x : Answered). x .answer) answered)
     × (map (λ (x : Listing). computed (x .target) (x .mode) (x .lines)) listings ≡ map (λ (x : Listing). x .output) listings)
     × (map (λ (x : Listing). leb (length (x .lines)) listingLimit) listings ≡ map (λ (x : Listing). true) listings)
-unfolding listings linesWith printedLine turnsText turnsFiles registersText changesText changeText startFiles hex decimal decimalIn standard run isLegal sizesFit predsFit guardHolds after writes arithmeticOf formOf selectedOf exactOf lanesOf laneHolds holdsZ combinedOf testOf comparisonOf valueOf lt eq isNan ofBits ofFields odd answered readOf allows passes lanesAgainstItself refusedBy verdictOf placeOf partsPlaceOf modifierPlaceOf guardPlaceOf legalPlaceOf operandIndexOf rowPlaceOf row.guessOf beginsRow row.tried row.completed row.entry isRow operandPlaceOf fill.guessOf beginsFilled fill.tried fill.completed fill.entry isFilled turnsAt searched shapePlaceOf wrongFrom step register digits follow ends named headAt guardEnd nameFrom operandsAt operandFrom nextAt nextOf nextBy barAt overAt candidateOf shapeOf guardedBy guardOf guardBy fromHead headOf turns nameTurn nameBy pushedName fromGap fromOperands operandsScanned operandTurn operandBy operandScanned invertedBy firstOf afterBy partOf secondOf secondBy dividedBy dividerOf dividerBy pushedTree fromEnd stoppedAt registerOf registerBy prefixBy registerFrom numberFound numberBy cappedSum codeOf rowOf rowBy foundOf readHead nameAt wholeOf sidesAt sidesBy headCompared comparedBy typedOf typedBy endingAt endingBy arithmeticRow arithmeticTyped arithmeticBy vsetRow vsetBy vsetLanesRow vsetLanesBy laneArithmeticRow laneArithmeticTyped laneArithmeticBy testedOf testedBy testAt setRow setTested setAt setBy setpRow setpTested setpAt setpBy selpRow selpBy slctRow slctAt slctBy slctTypeOf opcodeOf videoOf setTypeOf selectorOf typeOf sixOf cmpOf boolOpOf op2Of maskOf falling digitsNamed digitsIn filledOf treeAt scalarFrom lanesFrom comparisonFrom choiceFrom
-answered-computed = (refl, refl, refl)
+    × (map (λ (x : Question). lastOf answerHere (x .listing) (x .register)) questions ≡ map (λ (x : Question). x .answer) questions)
+unfolding questions lastOf lastIn listings linesWith printedLine turnsText turnsFiles registersText changesText changeText startFiles hex decimal decimalIn standard run isLegal sizesFit predsFit guardHolds after writes arithmeticOf formOf selectedOf exactOf lanesOf laneHolds holdsZ combinedOf testOf comparisonOf valueOf lt eq isNan ofBits ofFields odd answered readOf allows passes lanesAgainstItself refusedBy verdictOf placeOf partsPlaceOf modifierPlaceOf guardPlaceOf legalPlaceOf operandIndexOf rowPlaceOf row.guessOf beginsRow row.tried row.completed row.entry isRow operandPlaceOf fill.guessOf beginsFilled fill.tried fill.completed fill.entry isFilled turnsAt searched shapePlaceOf wrongFrom step register digits follow ends named headAt guardEnd nameFrom operandsAt operandFrom nextAt nextOf nextBy barAt overAt candidateOf shapeOf guardedBy guardOf guardBy fromHead headOf turns nameTurn nameBy pushedName fromGap fromOperands operandsScanned operandTurn operandBy operandScanned invertedBy firstOf afterBy partOf secondOf secondBy dividedBy dividerOf dividerBy pushedTree fromEnd stoppedAt registerOf registerBy prefixBy registerFrom numberFound numberBy cappedSum codeOf rowOf rowBy foundOf readHead nameAt wholeOf sidesAt sidesBy headCompared comparedBy typedOf typedBy endingAt endingBy arithmeticRow arithmeticTyped arithmeticBy vsetRow vsetBy vsetLanesRow vsetLanesBy laneArithmeticRow laneArithmeticTyped laneArithmeticBy testedOf testedBy testAt setRow setTested setAt setBy setpRow setpTested setpAt setpBy selpRow selpBy slctRow slctAt slctBy slctTypeOf opcodeOf videoOf setTypeOf selectorOf typeOf sixOf cmpOf boolOpOf op2Of maskOf falling digitsNamed digitsIn filledOf treeAt scalarFrom lanesFrom comparisonFrom choiceFrom
+answered-computed = (refl, refl, refl, refl)
 
 -- the grammar gives each line of a list the answer beside it
 abbrev pub EachGets : List Answered → Type 0
@@ -381,3 +449,23 @@ each-printed (x ∷ xs) e h =
 
 pub listings-hold : EachPrints listings
 listings-hold = each-printed listings (answered-computed .1) (answered-computed .2)
+
+-- a full reading from the front gives each question of a list the answer beside it
+abbrev pub EachLast : List Question → Type 0
+EachLast [] = Unit {0}
+EachLast (x ∷ xs) = IsLast (x .listing) (x .register) (x .answer) × EachLast xs
+
+each-last : (xs : List Question) → map (λ (x : Question). lastOf answerHere (x .listing) (x .register)) xs ≡ map (λ (x : Question). x .answer) xs → EachLast xs
+each-last [] e = tt
+each-last (x ∷ xs) e =
+    let this : lastOf answerHere (x .listing) (x .register) ≡ x .answer = cc in
+    let rest : map (λ (x : Question). lastOf answerHere (x .listing) (x .register)) xs ≡ map (λ (x : Question). x .answer) xs = cc in
+    (λ answer full. sym (same-last answer full (x .listing) (x .register) ∙ this), each-last xs rest)
+
+pub questions-hold : EachLast questions
+questions-hold = each-last questions (answered-computed .3)
+
+-- 22 for a longer listing, before 6
+pub long-first : (answer : List ℕ → Answer) → lastOf answer (replicate 65537 lineFeed) 64 ≡ last.refused-by 22
+unfolding lastOf
+long-first answer = refl
