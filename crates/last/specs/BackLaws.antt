@@ -14,7 +14,7 @@ use Rattle.signs.specs.Bytes as bytes
 use Rattle.rules.specs.Reading as reading
 use Rattle.lines.specs.Lines.{linesWith, linesOf, WholeLines, no-line}
 use Rattle.lines.specs.LineLaws.{widths, noFeed, whole-by, whole-lines, whole-widths, plain-by, one-line, last-line}
-use Rattle.last.specs.Last.{hasDestination, later, lastIn}
+use Rattle.last.specs.Last.{later, lastIn}
 use Rattle.last.specs.Back.{answerHere, hasHere, lineEnd, lineStart, part, endBefore, startBefore, lineBefore, lineBack, goesOn, foundAt, lastBeyond}
 
 -- ==== what is found in lines and more lines

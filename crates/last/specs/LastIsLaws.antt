@@ -7,13 +7,12 @@ use mathlib.Core.List.{List, [], _∷_, _++_, append-assoc}
 use mathlib.Core.Option.{Option, none, some}
 use lib.ListN.{length, drop, length-append}
 use lib.Seq.{drop-at}
-use lib.Dec.{eqb, ltb, leb}
+use lib.Dec.{ltb, leb}
 use borrow.Author.Tests.{eq-eqb, eqb-true, ltb-true, ltb-false, lt-ltb, le-ltb, leb-true, leb-false, le-leb, lt-leb}
 use Rattle.signs.specs.Lists.{Listed}
 use Rattle.signs.specs.Lists.Listed.{here, later as further}
 use Rattle.record.specs.Registers.{Place, reg, word, wordCount}
 use Rattle.record.specs.declared.File.the-variants.{Words, Halves, Doubles, Preds}
-use Rattle.record.specs.declared.Record.{Record}
 use Rattle.record.specs.declared.Mode.the-variants.{Ordinary}
 use Rattle.record.specs.declared.Target.the-variants.{Sm30}
 use Rattle.rules.specs.Executing.{destinations}
@@ -21,7 +20,7 @@ use Rattle.rules.specs.Reading.{Answers, read, refused, refused-at}
 use Rattle.rules.specs.Reading as reading
 use Rattle.lines.specs.Lines.{linesOf, listingLimit, WholeLines}
 use Rattle.lines.specs.LineLaws.{widths, whole-lines, whole-widths, whole-append, standing}
-use Rattle.last.specs.Last.{isWord, hasWord, hasDestination, FullReading, later, lastIn, Answer, distance, none-has, refused-by, told, lastOf, IsLast}
+use Rattle.last.specs.Last.{isWord, hasWord, hasDestination, FullReading, later, lastIn, Answer, distance, refused-by, told, lastOf, IsLast}
 use Rattle.last.specs.Back.{answerHere, hasHere}
 use Rattle.last.specs.BackLaws.{last-append}
 use Rattle.last.specs.LastIs.{Has, NoneHas, LastIs, too-long, no-register, nowhere, at-distance}

@@ -4,7 +4,6 @@ use native.Mathlib.Nat.{sub-zero}
 use mathlib.Core.Path.{_≡_, refl, ap, _∙_}
 use mathlib.Core.Bool.{true, false}
 use mathlib.Core.List.{List, [], _∷_}
-use mathlib.Core.Option.{Option}
 use lib.ListN.{length}
 use lib.Seq.{take-length}
 use lib.Dec.{ltb, leb}

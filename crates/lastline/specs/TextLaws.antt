@@ -23,27 +23,25 @@ use Rattle.record.specs.declared.Mode.the-variants.{Ordinary}
 use Rattle.record.specs.declared.Target.the-variants.{Sm30}
 use Rattle.rules.specs.Shape.{registerText}
 use Rattle.rules.specs.Grammar.{GoodPlace}
-use Rattle.rules.specs.StandardLine.{standard}
 use Rattle.rules.specs.Reading.{Answers, read}
 use Rattle.rules.specs.Reading as reading
 use Rattle.rules.specs.Writing.{front}
 use Rattle.laws.specs.LineLengths.{longestLine, standard-length}
 use Rattle.text.specs.Buffer.{Buffer, buffer, Puts, _then_, whole-front}
 use Rattle.text.specs.DigitLaws.{mostDigits, decimal-short}
-use Rattle.tree.specs.declared.Place.the-variants.{Word, Half, Double, Pred}
 use Rattle.tree.specs.Seen.{seenPlace}
 use Rattle.scan.specs.declared.Register.{Register}
 use Rattle.scan.specs.declared.Register.the-variants.{Got, Bad}
 use Rattle.scan.specs.Registers.{registerOf}
 use Rattle.scan.specs.RegisterLaws.{register-sound, register-complete}
 use Rattle.read.specs.Answering.{answers-unique}
-use Rattle.lines.specs.Lines.{linesWith, linesOf, listingLimit, Ended, feed, more, WholeLines, no-line, some-lines}
+use Rattle.lines.specs.Lines.{linesWith, linesOf, Ended, feed, more, WholeLines, no-line, some-lines}
 use Rattle.lines.specs.Until.{lengthTo, before}
 use Rattle.lines.specs.LineLaws.{first-line}
 use Rattle.report.specs.Listing.{refusedText}
 use Rattle.report.specs.Chunks.{lineText}
 use Rattle.report.specs.ChunkLaws.{legal-of}
-use Rattle.last.specs.Last.{Answer, distance, none-has, refused-by, IsLast}
+use Rattle.last.specs.Last.{Answer, distance, none-has, refused-by}
 use Rattle.last.specs.Back.{answerHere}
 use Rattle.last.specs.LastLaws.{readOf-full}
 use Rattle.last.specs.LastIs.{LastIs, too-long, no-register, nowhere, at-distance}
@@ -60,7 +58,7 @@ impossible z = absurd (omega (arith, z))
 register-asked : (l : List ℕ) (n : ℕ) → GoodPlace (word n) → l ≡ registerText (word n) → askedBy (registerOf l) l ≡ some n
 register-asked l n g e =
     let q : registerOf l ≡ Got (seenPlace (word n)) (length l) =
-        ap registerOf (e ∙ sym (append-nil (registerText (word n)))) ∙ register-complete (word n) [] g refl ∙ ap (λ (x : List ℕ). Got (seenPlace (word n)) (length x)) (sym e) in
+    ap registerOf (e ∙ sym (append-nil (registerText (word n)))) ∙ register-complete (word n) [] g refl ∙ ap (λ (x : List ℕ). Got (seenPlace (word n)) (length x)) (sym e) in
     rw (q, eq-eqb (length l) (length l) refl)
 
 -- and what asks for it is its text
@@ -198,9 +196,10 @@ pub text-there : {s : List ℕ} {n : ℕ} {a : Answer} → LastIs s n a → (t :
 text-there (too-long i) = (refusedText 22, refused)
 text-there (no-register i k) = (refusedText 6, refused)
 text-there (nowhere i k z) = (bytes "none", none-found)
-text-there (at-distance i k p t l ls e w q x z) =
-    (foundText (length (linesOf p) + 1) (x .spelled),
-    line-found (record { before-it = p; from-it = t; both = e; whole = w; far = refl; line = l; others = ls; lines = q; accepted = x .accepted; numbered = refl }))
+text-there (at-distance i k p t l ls e w q x z) = (
+  foundText (length (linesOf p) + 1) (x .spelled),
+  line-found (record { before-it = p; from-it = t; both = e; whole = w; far = refl; line = l; others = ls; lines = q; accepted = x .accepted; numbered = refl }),
+)
 
 pub every-question : (s : List ℕ) (n : ℕ) → (t : List ℕ) × Printed s n t
 every-question s n =

@@ -4,7 +4,7 @@ use native.Mathlib.Nat.{mod-eq-of-lt}
 use native.Mathlib.Numerals.{add-one}
 use native.Mathlib.Omega.{arith}
 use mathlib.Core.Path.{_≡_, refl, sym, ap, ap₂, subst, _∙_}
-use mathlib.Core.Bool.{Bool, true, false, cond}
+use mathlib.Core.Bool.{Bool, true, false}
 use mathlib.Core.List.{List, [], _∷_, _++_, append-assoc, append-nil}
 use mathlib.Core.Option.{Option, none, some}
 use lib.ListN.{length, take, drop}
@@ -29,7 +29,7 @@ use Rattle.passlog.specs.Log as log
 use Rattle.lines.specs.LineLaws.{first-line, no-lines}
 use Rattle.passlog.specs.Spelling.{readOf}
 use Rattle.passlog.specs.SpellingLaws.{read-says, read-one}
-use Rattle.passlog.specs.Steps.{lineAt, nextPlace, lineRoom, Step, ended, no-room, too-long, one-line, Logs, Calls, no-more, one-more, endRoom, endOutcome, printed-bytes, refused, ending}
+use Rattle.passlog.specs.Steps.{nextPlace, lineRoom, Step, ended, no-room, too-long, one-line, Logs, Calls, no-more, one-more, endRoom, endOutcome, printed-bytes, refused, ending}
 
 -- ==== every input has an output, and none has two
 

@@ -1,6 +1,6 @@
 -- The code's own way to read a text: it takes numbers from it as if it were well formed, writes the text of these numbers, and looks whether that is the
 -- text that it has. SpellingLaws join this to `Says`.
-use Prim.Native.Nat.{ℕ, suc, _+_, _-_, _*_, _%_, _^_}
+use Prim.Native.Nat.{ℕ, _+_, _-_, _*_, _%_, _^_}
 use mathlib.Core.Bool.{cond}
 use mathlib.Core.List.{List, [], _∷_}
 use mathlib.Core.Option.{Option, none, some}

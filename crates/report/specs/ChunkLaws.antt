@@ -1,15 +1,13 @@
 -- Laws of the code's way through a listing: what a turn of its loops needs. Assumes nothing.
 use Prim.Native.Nat.{ℕ, _+_, _-_, _^_, _≤_, _<_}
 use native.Mathlib.Nat.{sub-zero}
-use native.Mathlib.Numerals.{add-one}
 use native.Mathlib.Omega.{arith}
 use mathlib.Core.Path.{_≡_, refl, sym, _∙_, subst}
 use mathlib.Core.Bool.{Bool, true, false, _&&_, cond}
 use mathlib.Core.List.{List, [], _∷_, _++_, append-assoc, append-nil}
-use lib.ListN.{length, drop, getD, length-append, drop-of-length-le}
-use lib.Seq.{drop-cons}
+use lib.ListN.{length, length-append}
 use lib.Dec.{ltb, leb}
-use borrow.Author.Tests.{ltb-true, ltb-false, leb-true, leb-false, eq-eqb, ne-eqb}
+use borrow.Author.Tests.{ltb-true, ltb-false, leb-true, leb-false}
 use Rattle.record.specs.Refusals.{Legal}
 use Rattle.record.specs.declared.Record.{Record}
 use Rattle.record.specs.declared.Target.{Target}
@@ -28,7 +26,6 @@ use Rattle.text.specs.Buffer.{buffer, Puts, _then_, whole-front}
 use Rattle.text.specs.DigitLaws.{decimal-short}
 use Rattle.lines.specs.Lines.{listingLimit}
 use Rattle.report.specs.Listing.{refusedText, executedText, answerText, printedLine, Turn, tooLongText}
-use Rattle.signs.specs.Bytes.{lineFeed}
 use Rattle.report.specs.Chunks.{lineAt, behind, nextPlace, nextNumber, lineRoom, PutsTurn, SomeLines, ended, no-room, too-long, one-more, Prints}
 
 -- the next line begins further on

@@ -43,15 +43,17 @@ operand-is-requires-2 c κs = search needs
 
 returns : tie.Need-returns
 returns c =
-    simp
-    (c .before .form-d .ensures,
-    c .before .before .before .i .given .1)
+    simp (
+      c .before .form-d .ensures,
+      c .before .before .before .i .given .1,
+    )
 
 returns-2 : tie.Need-returns-2
 returns-2 c =
-    simp
-    (c .before .form-d2 .ensures,
-    c .before .before .before .i2 .given .1)
+    simp (
+      c .before .form-d2 .ensures,
+      c .before .before .before .i2 .given .1,
+    )
 
 returns-3 : tie.Need-returns-3
 returns-3 c =
@@ -70,21 +72,24 @@ returns-5 c =
 
 returns-6 : tie.Need-returns-6
 returns-6 c =
-    simp
-    (c .destination-is .ensures,
-    c .before .before .i6 .given .1)
+    simp (
+      c .destination-is .ensures,
+      c .before .before .i6 .given .1,
+    )
 
 returns-7 : tie.Need-returns-7
 returns-7 c =
-    simp
-    (c .operand-is .ensures,
-    c .before .before .i7 .given .1)
+    simp (
+      c .operand-is .ensures,
+      c .before .before .i7 .given .1,
+    )
 
 returns-8 : tie.Need-returns-8
 returns-8 c =
-    simp
-    (c .operand-is2 .ensures,
-    c .before .before .i8 .given .1)
+    simp (
+      c .operand-is2 .ensures,
+      c .before .before .i8 .given .1,
+    )
 
 pub has-word-spec : {M : Type 1} → statement M
 has-word-spec =

@@ -7,9 +7,10 @@ enum-known-p c = search needs
 
 returns : tie.Need-returns
 returns c =
-    simp
-    (c .if1 .taken,
-    c .before .before .p .given .1)
+    simp (
+      c .if1 .taken,
+      c .before .before .p .given .1,
+    )
 
 enum-told : tie.Need-enum-told
 enum-told c = search needs
