@@ -1,2 +1,3 @@
+pub mod Held
 pub mod Contracts
 pub mod OneOutcome

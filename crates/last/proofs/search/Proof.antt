@@ -21,13 +21,12 @@ use prog.Memory.{Memory}
 use prog.Routine.{Routine}
 use prog.Wp.{Heap, Out, Env, afterSeq, afterBlock, afterTurn, Calls, Loops, Wp, atReturn, WpFn, Tables}
 use ghost.Atoms.{Atoms, sem}
-use contract.Lifetimes.{Lfts}
 use contract.Monad.{Fun, fact}
 use contract.Running.{givenOf, tables, tablesOf}
 use types.Kit.{Given, Item, ‵, raw, _⊛_, ⋆, some, later, runs, anyQ, atRet, Sq, _$_, _∵_, !, qed, by, move, keep, drop, use1, use2, split, join, pick, rewrite, fsplit, fjoin, suffices, frame, await, done}
 use types.Run.{look, store, init, forget, stop, from, load, of-opd, and-then, no-more, assigns, land, land-last, first, skips, jumps, blocks, branches, returns, enter, alloc1, alloc0, params1, pass1, pass0, free1, free0, exec, Below, again, loops}
 use sound.WpLaws.{FmC, fmOf, WpFn-mono}
-use denote.RattleType.{RattleType, owns}
+use denote.RattleType.{owns}
 use denote.Laws.{Is, shows}
 use denote.Plain.{uint-vals, uint-tells, uint-makes, bool-lawful}
 use denote.Builtin.{u8, u16, bool}
@@ -50,6 +49,7 @@ use Rattle.last.specs.Back.{lastBeyond, lineBack, goesOn, foundAt}
 use Rattle.last.specs.BackLaws.{passed, nearer, stopped}
 use Rattle.last.specs.declared.Back.{Back}
 use Rattle.last.specs.declared.Last.{Last}
+use Rattle.last.proofs.Held.{B}
 use Rattle.last.proofs.Back as T
 use Rattle.last.proofs.Back.Laws as T′
 use Rattle.last.proofs.Last as S
@@ -83,10 +83,6 @@ holds false a = absurd a
 fails : (t : Bool) → Holds (not t) → t ≡ false
 fails true a = absurd a
 fails false _ = refl
-
--- the struct's type, over the signature's lifetimes
-abbrev B : Lfts 1 → RattleType
-B κs = T.the-row (namedLft 1 0 tt κs)
 
 abbrev stayed : Stays (search.ended .signature .params) (search.ended .kept)
 stayed = (stay-none-slice (0 ∷ []) tt (plain (λ _. u8)) yes, (stay-none (λ _. u16) yes, tt))
