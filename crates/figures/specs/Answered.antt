@@ -1,5 +1,6 @@
 -- Lines and the answers that document 01, T-05, T-06, T-07 and T-09 give them: lines that are read, each refusal 1 to 7, from 2 on with its place, 12, 15, and lines to which more
--- than one applies. One list with one claim. Then whole listings, document 01's own, one at each target and one in each mode, with what is printed of them, and their claim.
+-- than one applies. One list with one claim. Then whole listings, document 01's own, one at each target and one in each mode, with what is printed of them, and their claim;
+-- and questions who wrote a register last (T-11).
 use Prim.Native.Nat.{ℕ}
 use Prim.Native.String.{String}
 use mathlib.Core.Path.{_≡_, refl, sym, subst, _∙_}
@@ -55,10 +56,14 @@ use Rattle.fillplace.specs.Tries.{isFilled, beginsFilled, operandPlaceOf}
 use Rattle.places.specs.Mirror.{modifierPlaceOf, operandIndexOf, legalPlaceOf, guardPlaceOf, partsPlaceOf, placeOf}
 use Rattle.read.specs.Mirror.{candidateOf, verdictOf, refusedBy, readOf}
 use Rattle.read.specs.Answering.{answers}
-use Rattle.last.specs.Last.{lastIn, lastOf, IsLast}
+use Rattle.last.specs.Last.{lastIn, lastOf, ByFullReading}
 use Rattle.last.specs.Last as last
-use Rattle.last.specs.Back.{answerHere}
+use Rattle.last.specs.Back.{ownAnswer}
 use Rattle.last.specs.LastLaws.{same-last}
+use Rattle.lastline.specs.LastText.{Printed}
+use Rattle.lastline.specs.Steps.{feedsIn}
+use Rattle.lastline.specs.TextLaws as lasttext
+use Rattle.lines.specs.Until.{lengthTo}
 use Rattle.figures.specs.Lines.{exampleVset4, exampleSetp, exampleSelp, highestWord, halfSelp, halfSet, doubleSet, bitsSelp, flushedSlct, sameVset4, apartVset4, apartVset2, sameVadd4, sameVset}
 
 pub record Answered : Type 0 where
@@ -341,8 +346,6 @@ listings =
     ∷ prints Sm10 (bytes "vavrg") ("1 refused 2 5" ∷ [])
     ∷ []
 
--- ==== the claims
-
 -- ==== T-11: who wrote it last
 
 pub record Question : Type 0 where
@@ -399,21 +402,43 @@ questions =
     ∷ asks kindsOfLines 5 last.none-has
     ∷ asks kindsOfLines 6 last.none-has
     ∷ asks kindsOfLines 7 (last.distance 42)
-    -- no line at all; a register over 63, the last that is none
+    -- ordinary reading: an antenna compared with itself is accepted
+    ∷ asks itselfLines 10 (last.distance 84)
+    -- no line at all; `%r63` is a register, `%r64` is over 63
     ∷ asks [] 63 last.none-has
     ∷ asks [] 64 (last.refused-by 6)
     ∷ asks whoWrote 64 (last.refused-by 6)
     ∷ []
 
--- the reader's stages give each line its answer, the listings are printed by them, and the questions are answered by them; together, so that the stages are
--- named once
+-- what is printed of some: number and standard line of the line found, `none`, a refusal
+pub record Shown : Type 0 where
+  pub listing : List ℕ
+  pub register : ℕ
+  pub text : List ℕ
+
+abbrev shows : List ℕ → ℕ → String → Shown
+shows s n t = record { listing = s; register = n; text = text (t ∷ []) }
+
+unfoldable pub shown : List Shown
+shown =
+    shows whoWrote 51 "1 vset4.u32.u32.ge.add %r51, %r40, %r32, %r0;"
+    ∷ shows whoWrote 52 "5 @%p1 slct.u32.s32 %r52, %r2, %r0, %r51;"
+    ∷ shows whoWrote 8 "none"
+    ∷ shows [] 64 "refused 6"
+    ∷ []
+
+-- ==== the claims
+
+-- the reader's stages give each line its answer, and by them the listings are printed, the questions answered and their answers shown; together, so that the
+-- stages are named once
 answered-computed :
     (map (λ (x : Answered). readOf (x .target) (x .mode) (x .line)) answered ≡ map (λ (x : Answered). x .answer) answered)
     × (map (λ (x : Listing). computed (x .target) (x .mode) (x .lines)) listings ≡ map (λ (x : Listing). x .output) listings)
     × (map (λ (x : Listing). leb (length (x .lines)) listingLimit) listings ≡ map (λ (x : Listing). true) listings)
-    × (map (λ (x : Question). lastOf answerHere (x .listing) (x .register)) questions ≡ map (λ (x : Question). x .answer) questions)
-unfolding questions lastOf lastIn listings linesWith printedLine turnsText turnsFiles registersText changesText changeText startFiles hex decimal decimalIn standard run isLegal sizesFit predsFit guardHolds after writes arithmeticOf formOf selectedOf exactOf lanesOf laneHolds holdsZ combinedOf testOf comparisonOf valueOf lt eq isNan ofBits ofFields odd answered readOf allows passes lanesAgainstItself refusedBy verdictOf placeOf partsPlaceOf modifierPlaceOf guardPlaceOf legalPlaceOf operandIndexOf rowPlaceOf row.guessOf beginsRow row.tried row.completed row.entry isRow operandPlaceOf fill.guessOf beginsFilled fill.tried fill.completed fill.entry isFilled turnsAt searched shapePlaceOf wrongFrom step register digits follow ends named headAt guardEnd nameFrom operandsAt operandFrom nextAt nextOf nextBy barAt overAt candidateOf shapeOf guardedBy guardOf guardBy fromHead headOf turns nameTurn nameBy pushedName fromGap fromOperands operandsScanned operandTurn operandBy operandScanned invertedBy firstOf afterBy partOf secondOf secondBy dividedBy dividerOf dividerBy pushedTree fromEnd stoppedAt registerOf registerBy prefixBy registerFrom numberFound numberBy cappedSum codeOf rowOf rowBy foundOf readHead nameAt wholeOf sidesAt sidesBy headCompared comparedBy typedOf typedBy endingAt endingBy arithmeticRow arithmeticTyped arithmeticBy vsetRow vsetBy vsetLanesRow vsetLanesBy laneArithmeticRow laneArithmeticTyped laneArithmeticBy testedOf testedBy testAt setRow setTested setAt setBy setpRow setpTested setpAt setpBy selpRow selpBy slctRow slctAt slctBy slctTypeOf opcodeOf videoOf setTypeOf selectorOf typeOf sixOf cmpOf boolOpOf op2Of maskOf falling digitsNamed digitsIn filledOf treeAt scalarFrom lanesFrom comparisonFrom choiceFrom
-answered-computed = (refl, refl, refl, refl)
+    × (map (λ (x : Question). lastOf ownAnswer (x .listing) (x .register)) questions ≡ map (λ (x : Question). x .answer) questions)
+    × (map (λ (x : Shown). lasttext.computed (x .listing) (x .register)) shown ≡ map (λ (x : Shown). x .text) shown)
+unfolding questions shown lastOf lastIn lengthTo feedsIn listings linesWith printedLine turnsText turnsFiles registersText changesText changeText startFiles hex decimal decimalIn standard run isLegal sizesFit predsFit guardHolds after writes arithmeticOf formOf selectedOf exactOf lanesOf laneHolds holdsZ combinedOf testOf comparisonOf valueOf lt eq isNan ofBits ofFields odd answered readOf allows passes lanesAgainstItself refusedBy verdictOf placeOf partsPlaceOf modifierPlaceOf guardPlaceOf legalPlaceOf operandIndexOf rowPlaceOf row.guessOf beginsRow row.tried row.completed row.entry isRow operandPlaceOf fill.guessOf beginsFilled fill.tried fill.completed fill.entry isFilled turnsAt searched shapePlaceOf wrongFrom step register digits follow ends named headAt guardEnd nameFrom operandsAt operandFrom nextAt nextOf nextBy barAt overAt candidateOf shapeOf guardedBy guardOf guardBy fromHead headOf turns nameTurn nameBy pushedName fromGap fromOperands operandsScanned operandTurn operandBy operandScanned invertedBy firstOf afterBy partOf secondOf secondBy dividedBy dividerOf dividerBy pushedTree fromEnd stoppedAt registerOf registerBy prefixBy registerFrom numberFound numberBy cappedSum codeOf rowOf rowBy foundOf readHead nameAt wholeOf sidesAt sidesBy headCompared comparedBy typedOf typedBy endingAt endingBy arithmeticRow arithmeticTyped arithmeticBy vsetRow vsetBy vsetLanesRow vsetLanesBy laneArithmeticRow laneArithmeticTyped laneArithmeticBy testedOf testedBy testAt setRow setTested setAt setBy setpRow setpTested setpAt setpBy selpRow selpBy slctRow slctAt slctBy slctTypeOf opcodeOf videoOf setTypeOf selectorOf typeOf sixOf cmpOf boolOpOf op2Of maskOf falling digitsNamed digitsIn filledOf treeAt scalarFrom lanesFrom comparisonFrom choiceFrom
+answered-computed = (refl, refl, refl, refl, refl)
 
 -- the grammar gives each line of a list the answer beside it
 abbrev pub EachGets : List Answered → Type 0
@@ -453,19 +478,39 @@ listings-hold = each-printed listings (answered-computed .1) (answered-computed 
 -- a full reading from the front gives each question of a list the answer beside it
 abbrev pub EachLast : List Question → Type 0
 EachLast [] = Unit {0}
-EachLast (x ∷ xs) = IsLast (x .listing) (x .register) (x .answer) × EachLast xs
+EachLast (x ∷ xs) = ByFullReading (x .listing) (x .register) (x .answer) × EachLast xs
 
-each-last : (xs : List Question) → map (λ (x : Question). lastOf answerHere (x .listing) (x .register)) xs ≡ map (λ (x : Question). x .answer) xs → EachLast xs
+each-last : (xs : List Question) → map (λ (x : Question). lastOf ownAnswer (x .listing) (x .register)) xs ≡ map (λ (x : Question). x .answer) xs → EachLast xs
 each-last [] e = tt
 each-last (x ∷ xs) e =
-    let this : lastOf answerHere (x .listing) (x .register) ≡ x .answer = cc in
-    let rest : map (λ (x : Question). lastOf answerHere (x .listing) (x .register)) xs ≡ map (λ (x : Question). x .answer) xs = cc in
+    let this : lastOf ownAnswer (x .listing) (x .register) ≡ x .answer = cc in
+    let rest : map (λ (x : Question). lastOf ownAnswer (x .listing) (x .register)) xs ≡ map (λ (x : Question). x .answer) xs = cc in
     (λ answer full. sym (same-last answer full (x .listing) (x .register) ∙ this), each-last xs rest)
 
 pub questions-hold : EachLast questions
 questions-hold = each-last questions (answered-computed .3)
 
--- 22 for a longer listing, before 6
+-- and each is shown as the text beside it
+abbrev pub EachShows : List Shown → Type 0
+EachShows [] = Unit {0}
+EachShows (x ∷ xs) = Printed (x .listing) (x .register) (x .text) × EachShows xs
+
+each-shown : (xs : List Shown) → map (λ (x : Shown). lasttext.computed (x .listing) (x .register)) xs ≡ map (λ (x : Shown). x .text) xs → EachShows xs
+each-shown [] e = tt
+each-shown (x ∷ xs) e =
+    let this : lasttext.computed (x .listing) (x .register) ≡ x .text = cc in
+    let rest : map (λ (x : Shown). lasttext.computed (x .listing) (x .register)) xs ≡ map (λ (x : Shown). x .text) xs = cc in
+    (subst (Printed (x .listing) (x .register)) this (lasttext.every-question (x .listing) (x .register)), each-shown xs rest)
+
+pub shown-hold : EachShows shown
+shown-hold = each-shown shown (answered-computed .4)
+
+-- 65,536 bytes are no longer listing
+pub limit-in : (answer : List ℕ → Answer) → lastOf answer (replicate 65536 lineFeed) 64 ≡ last.refused-by 6
+unfolding lastOf
+limit-in answer = refl
+
+-- 22 for a longer one, before 6
 pub long-first : (answer : List ℕ → Answer) → lastOf answer (replicate 65537 lineFeed) 64 ≡ last.refused-by 22
 unfolding lastOf
 long-first answer = refl

@@ -14,11 +14,11 @@ use Rattle.lines.specs.Lines.{linesOf}
 use Rattle.last.specs.Last.{hasDestination, lastIn}
 
 -- the reader's own reading; it is a full one (`readOf-full`)
-abbrev pub answerHere : List ℕ → reading.Answer
-answerHere l = readOf Sm30 Ordinary l
+abbrev pub ownAnswer : List ℕ → reading.Answer
+ownAnswer l = readOf Sm30 Ordinary l
 
-unfoldable pub hasHere : ℕ → List ℕ → Bool
-hasHere n l = hasDestination n (answerHere l)
+unfoldable pub ownHas : ℕ → List ℕ → Bool
+ownHas n l = hasDestination n (ownAnswer l)
 
 -- where the line that ends before `at` ends: before its line feed, if it has one
 abbrev pub lineEnd : List ℕ → ℕ → ℕ
@@ -49,7 +49,7 @@ lineBack s gone = length s - startBefore s gone
 
 -- there is one, and it has not `%rn` as destination
 unfoldable pub goesOn : List ℕ → ℕ → ℕ → Bool
-goesOn s gone n = cond (eqb (length s - gone) 0) false (not (hasHere n (lineBefore s gone)))
+goesOn s gone n = cond (eqb (length s - gone) 0) false (not (ownHas n (lineBefore s gone)))
 
 -- where it begins, if there is one
 unfoldable pub foundAt : List ℕ → ℕ → Option ℕ
@@ -57,4 +57,4 @@ foundAt s gone = cond (ltb gone (length s)) (some (lineBack s gone)) none
 
 -- what is found in the lines that stand before the last `gone` bytes; the distance is that from the end of all
 unfoldable pub lastBeyond : List ℕ → ℕ → ℕ → Option ℕ
-lastBeyond s gone n = lastIn answerHere n (length s) 0 (linesOf (take (length s - gone) s))
+lastBeyond s gone n = lastIn ownAnswer n (length s) 0 (linesOf (take (length s - gone) s))

@@ -15,7 +15,7 @@ use Rattle.rules.specs.Reading as reading
 use Rattle.lines.specs.Lines.{linesWith, linesOf, WholeLines, no-line}
 use Rattle.lines.specs.LineLaws.{widths, noFeed, whole-by, whole-lines, whole-widths, plain-by, one-line, last-line}
 use Rattle.last.specs.Last.{later, lastIn}
-use Rattle.last.specs.Back.{answerHere, hasHere, lineEnd, lineStart, part, endBefore, startBefore, lineBefore, lineBack, goesOn, foundAt, lastBeyond}
+use Rattle.last.specs.Back.{ownAnswer, ownHas, lineEnd, lineStart, part, endBefore, startBefore, lineBefore, lineBack, goesOn, foundAt, lastBeyond}
 
 -- ==== what is found in lines and more lines
 
@@ -186,13 +186,13 @@ module _ (n : ℕ) (s : List ℕ) (gone : ℕ) where
     there : Turn s (length s - gone) (endBefore s gone)
     there = turn s (length s - gone) h (omega arith)
 
-    found-there : lastBeyond s gone n ≡ later (cond (hasHere n (lineBefore s gone)) (some (lineBack s gone)) none) (lastBeyond s (lineBack s gone) n)
-    unfolding lastIn hasHere lineBefore lineBack lastBeyond
+    found-there : lastBeyond s gone n ≡ later (cond (ownHas n (lineBefore s gone)) (some (lineBack s gone)) none) (lastBeyond s (lineBack s gone) n)
+    unfolding lastIn ownHas lineBefore lineBack lastBeyond
     found-there =
         let b = linesOf (take (startBefore s gone) s) in
         let k : 0 + widths b ≡ startBefore s gone = omega (arith, whole-widths (there .before), there .wide) in
         let d : length s - (length s - startBefore s gone) ≡ startBefore s gone = omega (arith, there .further) in
-        rw (there .lines, last-append answerHere n (length s) 0 b (part s (startBefore s gone) (endBefore s gone) ∷ []), k, d)
+        rw (there .lines, last-append ownAnswer n (length s) 0 b (part s (startBefore s gone) (endBefore s gone) ∷ []), k, d)
 
     further : length s - lineBack s gone < length s - gone
     unfolding lineBack
@@ -201,15 +201,15 @@ module _ (n : ℕ) (s : List ℕ) (gone : ℕ) where
   -- the reader goes on where there is a line that has not the destination
   record Going : Type 0 where
     there-is : 0 < length s - gone
-    has-not : hasHere n (lineBefore s gone) ≡ false
+    has-not : ownHas n (lineBefore s gone) ≡ false
 
   going : goesOn s gone n ≡ true → Going
   unfolding goesOn
   going h = go (eqb (length s - gone) 0) refl h
     where
-      go : (t : Bool) → eqb (length s - gone) 0 ≡ t → cond t false (not (hasHere n (lineBefore s gone))) ≡ true → Going
+      go : (t : Bool) → eqb (length s - gone) 0 ≡ t → cond t false (not (ownHas n (lineBefore s gone))) ≡ true → Going
       go true e k = let z : _≡_ {A = ℕ} 0 1 = cc in absurd (omega arith)
-      go false e k = record { there-is = omega (arith, eqb-false (length s - gone) 0 e); has-not = not-true (hasHere n (lineBefore s gone)) k }
+      go false e k = record { there-is = omega (arith, eqb-false (length s - gone) 0 e); has-not = not-true (ownHas n (lineBefore s gone)) k }
 
   -- what is found before that line is what is found before the place
   pub passed : goesOn s gone n ≡ true → lastBeyond s (lineBack s gone) n ≡ lastBeyond s gone n
@@ -221,21 +221,21 @@ module _ (n : ℕ) (s : List ℕ) (gone : ℕ) where
   -- where no line is left
   ended : length s - gone ≡ 0 → lastBeyond s gone n ≡ none
   unfolding lastBeyond
-  ended z = none-left answerHere n (length s) s (length s - gone) z
+  ended z = none-left ownAnswer n (length s) s (length s - gone) z
 
   -- it stops where there is none, or one that has
   pub stopped : goesOn s gone n ≡ false → foundAt s gone ≡ lastBeyond s gone n
   unfolding goesOn foundAt
   stopped h = go (eqb (length s - gone) 0) refl h
     where
-      go : (t : Bool) → eqb (length s - gone) 0 ≡ t → cond t false (not (hasHere n (lineBefore s gone))) ≡ false
+      go : (t : Bool) → eqb (length s - gone) 0 ≡ t → cond t false (not (ownHas n (lineBefore s gone))) ≡ false
           → cond (ltb gone (length s)) (some (lineBack s gone)) none ≡ lastBeyond s gone n
       go true e k =
           let z : length s - gone ≡ 0 = eqb-true (length s - gone) 0 e in
           rw (le-ltb gone (length s) (omega arith)) (sym (ended z))
       go false e k =
           let q : 0 < length s - gone = omega (arith, eqb-false (length s - gone) 0 e) in
-          rw (lt-ltb gone (length s) (omega arith)) (sym (rw (not-false (hasHere n (lineBefore s gone)) k) at (found-there q)))
+          rw (lt-ltb gone (length s) (omega arith)) (sym (rw (not-false (ownHas n (lineBefore s gone)) k) at (found-there q)))
 
 -- at the front the listing begins
 pub back-front : (s : List ℕ) (gone : ℕ) → length s - gone ≡ 0 → length s ≡ lineBack s gone

@@ -73,9 +73,9 @@ lastOf answer s n =
     (cond (leb wordCount n) (refused-by 6)
     (told (lastIn answer n (length s) 0 (linesOf s))))
 
--- The answer equals that of a full reading from the front
-abbrev pub IsLast : List ℕ → ℕ → Answer → Type 0
-IsLast s n a = (answer : List ℕ → reading.Answer) → FullReading answer → a ≡ lastOf answer s n
+-- The answer equals that of a full reading from the front. There is one, and all give the same (`readOf-full`, `one-reading`, LastLaws)
+abbrev pub ByFullReading : List ℕ → ℕ → Answer → Type 0
+ByFullReading s n a = (answer : List ℕ → reading.Answer) → FullReading answer → a ≡ lastOf answer s n
 
 -- what each answer of `last_writer` says in these words and numbers
 abbrev pub answerOf : Last → Answer

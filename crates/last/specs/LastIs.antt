@@ -1,8 +1,7 @@
 -- T-11 said once more, as a relation, of the grammar and the listing's bytes alone, apart from any reading in order. LastIsLaws: it allows one answer, that of
 -- `lastOf`.
 use Prim.Native.Nat.{ℕ, _≤_, _<_}
-use mathlib.Core.Path.{_≡_}
-use mathlib.Core.List.{List, _∷_, _++_}
+use mathlib.Core.List.{List}
 use lib.ListN.{length}
 use Rattle.signs.specs.Lists.{Listed}
 use Rattle.record.specs.Registers.{word, wordCount}
@@ -11,7 +10,7 @@ use Rattle.record.specs.declared.Mode.the-variants.{Ordinary}
 use Rattle.record.specs.declared.Target.the-variants.{Sm30}
 use Rattle.rules.specs.Executing.{destinations}
 use Rattle.rules.specs.Reading.{Answers, read}
-use Rattle.lines.specs.Lines.{linesOf, listingLimit, WholeLines}
+use Rattle.lines.specs.Lines.{linesOf, listingLimit, Stands}
 use Rattle.last.specs.Last.{Answer, distance, none-has, refused-by}
 
 -- a line accepted at sm_30 that has `%rn` as destination, guarded or not
@@ -30,6 +29,5 @@ pub data LastIs (s : List ℕ) (n : ℕ) : Answer → Type 0 where
   no-register : length s ≤ listingLimit → wordCount ≤ n → LastIs s n (refused-by 6)
   -- none has
   nowhere : length s ≤ listingLimit → n < wordCount → NoneHas n (linesOf s) → LastIs s n none-has
-  -- whole lines p stand before a line that has it, and no line behind it has; t is the line with all that stands behind it, so that its first byte is as far from the end
-  at-distance : length s ≤ listingLimit → n < wordCount → (p t l : List ℕ) (ls : List (List ℕ)) → s ≡ p ++ t → WholeLines p → linesOf t ≡ l ∷ ls → Has n l → NoneHas n ls
-      → LastIs s n (distance (length t))
+  -- a line that has it stands at that distance, and no line behind it has
+  at-distance : length s ≤ listingLimit → n < wordCount → {d : ℕ} {p l : List ℕ} {ls : List (List ℕ)} → Stands s d p l ls → Has n l → NoneHas n ls → LastIs s n (distance d)

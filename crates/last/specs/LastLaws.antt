@@ -15,34 +15,34 @@ use Rattle.rules.specs.Reading as reading
 use Rattle.read.specs.Answering.{answers, answers-unique}
 use Rattle.lines.specs.Lines.{linesOf, listingLimit}
 use Rattle.last.specs.Last.{hasDestination, FullReading, lastIn, Answer, refused-by, told, lastOf}
-use Rattle.last.specs.Back.{answerHere, hasHere, lastBeyond}
+use Rattle.last.specs.Back.{ownAnswer, ownHas, lastBeyond}
 
 -- the reader's own reading is a full one,
-pub readOf-full : FullReading answerHere
+pub readOf-full : FullReading ownAnswer
 readOf-full l = answers Sm30 Ordinary l
 
 -- and any other gives each line the same answer
-pub one-reading : (answer : List ℕ → reading.Answer) → FullReading answer → (l : List ℕ) → answer l ≡ answerHere l
-one-reading answer full l = answers-unique Sm30 Ordinary l (answer l) (answerHere l) (full l) (readOf-full l)
+pub one-reading : (answer : List ℕ → reading.Answer) → FullReading answer → (l : List ℕ) → answer l ≡ ownAnswer l
+one-reading answer full l = answers-unique Sm30 Ordinary l (answer l) (ownAnswer l) (full l) (readOf-full l)
 
 -- what a line has goes by the one answer to it
-pub line-has : (n : ℕ) (l : List ℕ) (a : reading.Answer) → Answers Sm30 Ordinary l a → hasHere n l ≡ hasDestination n a
-unfolding hasHere
-line-has n l a h = ap (hasDestination n) (answers-unique Sm30 Ordinary l (answerHere l) a (readOf-full l) h)
+pub line-has : (n : ℕ) (l : List ℕ) (a : reading.Answer) → Answers Sm30 Ordinary l a → ownHas n l ≡ hasDestination n a
+unfolding ownHas
+line-has n l a h = ap (hasDestination n) (answers-unique Sm30 Ordinary l (ownAnswer l) a (readOf-full l) h)
 
 module _ (answer : List ℕ → reading.Answer) (full : FullReading answer) where
-  same-found : (n size at : ℕ) (ls : List (List ℕ)) → lastIn answer n size at ls ≡ lastIn answerHere n size at ls
+  same-found : (n size at : ℕ) (ls : List (List ℕ)) → lastIn answer n size at ls ≡ lastIn ownAnswer n size at ls
   unfolding lastIn
   same-found n size at [] = refl
   same-found n size at (l ∷ ls) = rw (same-found n size (at + length l + 1) ls, one-reading answer full l)
 
-  pub same-last : (s : List ℕ) (n : ℕ) → lastOf answer s n ≡ lastOf answerHere s n
+  pub same-last : (s : List ℕ) (n : ℕ) → lastOf answer s n ≡ lastOf ownAnswer s n
   unfolding lastOf
   same-last s n = rw (same-found n (length s) 0 (linesOf s))
 
 -- ==== what the code answers
 
-from-the-end : (s : List ℕ) (n : ℕ) → lastBeyond s 0 n ≡ lastIn answerHere n (length s) 0 (linesOf s)
+from-the-end : (s : List ℕ) (n : ℕ) → lastBeyond s 0 n ≡ lastIn ownAnswer n (length s) 0 (linesOf s)
 unfolding lastBeyond
 from-the-end s n = rw (sub-zero (length s), take-length s)
 

@@ -1,21 +1,23 @@
 // Who wrote this last: the last accepted line of a listing that has a given `%r` as destination. The listing is read from its end back, a line at a
 // time, and no further than to the line found.
 use read::Reading;
+use record::Choice;
 use record::Destination;
 use record::Form;
 use record::Instruction;
 use record::Mode;
 use record::Operand;
+use record::Scalar;
 use record::Target;
 use record::Word;
 ghost use mathlib.Core.Path.{_≡_};
 ghost use mathlib.Core.List.{[], _∷_};
 ghost use Prim.Native.Nat.{_≤_, _<_};
 ghost use lib.ListN.{length};
-ghost use Rattle.record.specs.Registers.{operandPlace};
+ghost use Rattle.record.specs.Registers.{r, operandPlace};
 ghost use Rattle.rules.specs.Executing.{formD, destinationPlaces, destinations};
-ghost use Rattle.last.specs.Last.{hasWord, told, IsLast, answerOf};
-ghost use Rattle.last.specs.Back.{hasHere, lineEnd, lineStart, lineBack, goesOn, foundAt, lastBeyond};
+ghost use Rattle.last.specs.Last.{hasWord, told, ByFullReading, answerOf};
+ghost use Rattle.last.specs.Back.{ownHas, lineEnd, lineStart, lineBack, goesOn, foundAt, lastBeyond};
 
 // At most so many bytes of a listing.
 const LISTING_LIMIT: usize = 65536;
@@ -70,6 +72,20 @@ fn destination_is(d: Destination, n: u16) -> bool
     }
 }
 
+fn scalar_is(s: Scalar, n: u16) -> bool
+    ensures { λ x. ⌜ x ≡ hasWord n (r (formD (s .form)) ∷ []) ⌝ }
+{
+    let f = s.form;
+    form_d(f).0 == n
+}
+
+fn choice_is(c: Choice, n: u16) -> bool
+    ensures { λ r. ⌜ r ≡ hasWord n (operandPlace (c .d) ∷ []) ⌝ }
+{
+    let d = c.d;
+    operand_is(d, n)
+}
+
 // Whether the instruction has `%r` number n as destination.
 fn has_word(i: Instruction, n: u16) -> bool
     ensures { λ r. ⌜ r ≡ hasWord n (destinations i) ⌝ }
@@ -80,14 +96,8 @@ fn has_word(i: Instruction, n: u16) -> bool
             dtype: _,
             sat: _,
             scalar,
-        } => {
-            let f = scalar.form;
-            form_d(f).0 == n
-        }
-        Instruction::Vset { cmp: _, scalar } => {
-            let f = scalar.form;
-            form_d(f).0 == n
-        }
+        } => scalar_is(scalar, n),
+        Instruction::Vset { cmp: _, scalar } => scalar_is(scalar, n),
         Instruction::VsetLanes { cmp: _, lanes } => lanes.d.0 == n,
         Instruction::ArithmeticLanes {
             op: _,
@@ -101,24 +111,18 @@ fn has_word(i: Instruction, n: u16) -> bool
             comparison: _,
         } => d.0 == n,
         Instruction::Setp { d, comparison: _ } => destination_is(d, n),
-        Instruction::Selp { choice, c: _ } => {
-            let d = choice.d;
-            operand_is(d, n)
-        }
+        Instruction::Selp { choice, c: _ } => choice_is(choice, n),
         Instruction::Slct {
             ctype: _,
             choice,
             c: _,
-        } => {
-            let d = choice.d;
-            operand_is(d, n)
-        }
+        } => choice_is(choice, n),
     }
 }
 
 // Whether the line is accepted at sm_30, in ordinary reading, and has it.
 fn line_has(line: &[u8], n: u16) -> bool
-    ensures { λ r. ⌜ r ≡ hasHere n (now (line .entry)) ⌝ }
+    ensures { λ r. ⌜ r ≡ ownHas n (now (line .entry)) ⌝ }
 {
     match read::read(Target::Sm30, Mode::Ordinary, line) {
         Reading::Record(r) => {
@@ -174,7 +178,7 @@ fn line_back(s: &[u8], gone: usize) -> usize
 }
 
 // Whether there is such a line and it has not that destination.
-fn passes(s: &[u8], gone: usize, n: u16) -> bool
+fn goes_on_at(s: &[u8], gone: usize, n: u16) -> bool
     ensures { λ r. ⌜ r ≡ goesOn (now (s .entry)) gone n ⌝ }
 {
     let at = lines::left(s.len(), gone);
@@ -215,7 +219,7 @@ fn at_end<'a>(listing: &'a [u8]) -> Back<'a>
 fn goes_on<'a>(b: Back<'a>, n: u16) -> bool
     ensures { λ r. ⌜ r ≡ goesOn (now (b .entry .listing)) (b .entry .gone) n ⌝ }
 {
-    passes(b.listing, b.gone, n)
+    goes_on_at(b.listing, b.gone, n)
 }
 
 // One line further back.
@@ -235,7 +239,7 @@ fn found<'a>(b: Back<'a>) -> Last
     found_at(b.listing, b.gone)
 }
 
-// From a listing to a reader and what it finds: whoever calls this one has plain parameters.
+// From the end back, a line at a time, to the first line that has it.
 fn search(listing: &[u8], n: u16) -> Last
     ensures { λ r. ⌜ answerOf r ≡ told (lastBeyond (now (listing .entry)) 0 n) ⌝ }
 {
@@ -250,7 +254,7 @@ fn search(listing: &[u8], n: u16) -> Last
 
 // The answer is that of reading all of the listing from the front.
 pub fn last_writer(listing: &[u8], register: Word) -> Last
-    ensures { λ x. ⌜ IsLast (now (listing .entry)) (register .0) (answerOf x) ⌝ }
+    ensures { λ x. ⌜ ByFullReading (now (listing .entry)) (register .0) (answerOf x) ⌝ }
 {
     let n = register.0;
     let too_long = LISTING_LIMIT < listing.len();

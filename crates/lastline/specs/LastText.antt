@@ -15,9 +15,9 @@ use Rattle.rules.specs.Shape.{registerText}
 use Rattle.rules.specs.Grammar.{GoodPlace}
 use Rattle.rules.specs.StandardLine.{standard}
 use Rattle.rules.specs.Reading.{Answers, read}
-use Rattle.lines.specs.Lines.{linesOf, WholeLines}
+use Rattle.lines.specs.Lines.{linesOf, Stands}
 use Rattle.report.specs.Listing.{refusedText}
-use Rattle.last.specs.Last.{Answer, distance, none-has, refused-by, IsLast}
+use Rattle.last.specs.Last.{Answer, distance, none-has, refused-by, ByFullReading}
 
 -- ==== the word
 
@@ -28,16 +28,12 @@ pub data Asks (l : List ℕ) : Option ℕ → Type 0 where
 
 -- ==== the text of an answer
 
--- the line that stands at a distance from the end: whole lines stand before it, and it is accepted with record m; lines are numbered from 1 on
+-- the line that stands at a distance from the end, accepted with record m; lines are numbered from 1 on
 pub record LineAt (s : List ℕ) (d number : ℕ) (m : Record) : Type 0 where
   pub before-it : List ℕ
-  pub from-it : List ℕ
-  pub both : s ≡ before-it ++ from-it
-  pub whole : WholeLines before-it
-  pub far : length from-it ≡ d
   pub line : List ℕ
-  pub others : List (List ℕ)
-  pub lines : linesOf from-it ≡ line ∷ others
+  pub behind-it : List (List ℕ)
+  pub stands : Stands s d before-it line behind-it
   pub accepted : Answers Sm30 Ordinary line (read m)
   pub numbered : number ≡ length (linesOf before-it) + 1
 
@@ -53,4 +49,4 @@ pub data TextOf (s : List ℕ) : Answer → List ℕ → Type 0 where
 
 -- what is printed of a listing and a register, with a line feed
 pub data Printed (s : List ℕ) (n : ℕ) : List ℕ → Type 0 where
-  printed : {a : Answer} {t : List ℕ} → IsLast s n a → TextOf s a t → Printed s n (t ++ (lineFeed ∷ []))
+  printed : {a : Answer} {t : List ℕ} → ByFullReading s n a → TextOf s a t → Printed s n (t ++ (lineFeed ∷ []))

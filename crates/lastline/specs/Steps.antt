@@ -1,4 +1,5 @@
--- The code's own way: what its functions answer in these words, how much room a text needs, and how a line's number is counted.
+-- What the functions' answers say in these words, and what stands in the lent buffer; and the code's own way: what it makes of a word, and how it counts
+-- lines.
 use Prim.Native.Nat.{ℕ, _+_, _≤_, _<_}
 use mathlib.Core.Path.{_≡_, refl}
 use mathlib.Core.Bool.{Bool, cond}

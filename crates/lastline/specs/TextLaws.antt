@@ -8,7 +8,7 @@ use mathlib.Core.Bool.{Bool, true, false, cond}
 use mathlib.Core.List.{List, [], _∷_, _++_, append-nil}
 use mathlib.Core.Option.{Option, none, some}
 use lib.ListN.{length, take, drop, getD, length-append, drop-of-length-le}
-use lib.Seq.{take-at, drop-at, drop-cons}
+use lib.Seq.{drop-cons}
 use lib.Dec.{eqb}
 use borrow.Author.Tests.{eq-eqb, eqb-true}
 use Rattle.signs.specs.Text.{bytes}
@@ -37,12 +37,12 @@ use Rattle.scan.specs.RegisterLaws.{register-sound, register-complete}
 use Rattle.read.specs.Answering.{answers-unique}
 use Rattle.lines.specs.Lines.{linesWith, linesOf, Ended, feed, more, WholeLines, no-line, some-lines}
 use Rattle.lines.specs.Until.{lengthTo, before}
-use Rattle.lines.specs.LineLaws.{first-line}
+use Rattle.lines.specs.LineLaws.{stands-sizes, stands-inside, stands-before, stands-line}
 use Rattle.report.specs.Listing.{refusedText}
 use Rattle.report.specs.Chunks.{lineText}
 use Rattle.report.specs.ChunkLaws.{legal-of}
-use Rattle.last.specs.Last.{Answer, distance, none-has, refused-by}
-use Rattle.last.specs.Back.{answerHere}
+use Rattle.last.specs.Last.{Answer, distance, none-has, refused-by, lastOf}
+use Rattle.last.specs.Back.{ownAnswer}
 use Rattle.last.specs.LastLaws.{readOf-full}
 use Rattle.last.specs.LastIs.{LastIs, too-long, no-register, nowhere, at-distance}
 use Rattle.last.specs.LastIsLaws.{last-is, as-relation, as-reading, one-last}
@@ -136,45 +136,23 @@ feeds-le (b ∷ s) = go (eqb b lineFeed) (feeds-le s)
 
 -- ==== the line that stands at a distance
 
-some-byte : (t l : List ℕ) (ls : List (List ℕ)) → linesOf t ≡ l ∷ ls → 0 < length t
-unfolding linesWith
-some-byte [] l ls e = impossible cc
-some-byte (b ∷ t) l ls e = omega arith
-
 module _ {s : List ℕ} {d number : ℕ} {m : Record} (x : LineAt s d number m) where
-  sizes : length s ≡ length (x .before-it) + d
-  sizes = ap length (x .both) ∙ length-append (x .before-it) (x .from-it) ∙ ap (λ (k : ℕ). length (x .before-it) + k) (x .far)
-
-  inside : length s - d < length s
-  inside = omega (arith, sizes, x .far, some-byte (x .from-it) (x .line) (x .others) (x .lines))
-
-  before-is : take (length s - d) s ≡ x .before-it
-  before-is = ap (take (length s - d)) (x .both) ∙ take-at (x .before-it) (x .from-it) (length s - d) (omega (arith, sizes))
-
-  from-is : drop (length s - d) s ≡ x .from-it
-  from-is = ap (drop (length s - d)) (x .both) ∙ drop-at (x .before-it) (x .from-it) (length s - d) (omega (arith, sizes))
-
-  -- it is what stands there up to a line feed
   pub accepted-there : Answers Sm30 Ordinary (before lineFeed (drop (length s - d) s)) (read m)
-  accepted-there =
-      let e = sym (x .lines) ∙ ap linesOf (sym from-is) ∙ first-line s (length s - d) inside in
-      let q : x .line ≡ before lineFeed (drop (length s - d) s) = cc in
-      subst (λ (l : List ℕ). Answers Sm30 Ordinary l (read m)) q (x .accepted)
+  accepted-there = subst (λ (l : List ℕ). Answers Sm30 Ordinary l (read m)) (stands-line (x .stands)) (x .accepted)
 
   pub legal-there : Legal m
   legal-there = legal-of (x .accepted)
 
+  -- it is counted by the line feeds before it
   number-feeds : number ≡ feedsIn (take (length s - d) s) + 1
-  number-feeds = x .numbered ∙ ap (λ (k : ℕ). k + 1) (whole-feeds (x .whole) ∙ ap feedsIn (sym before-is))
-
-  -- and it is counted by the line feeds before it
-  pub counted-there : length s < 2 ^ 64 → (feedsIn (take (length s - d) s) + 1) % 2 ^ 64 ≡ number
-  counted-there h =
-      let k = feeds-le (take (length s - d) s) in
-      mod-eq-of-lt (omega (arith, h, k, inside, ap length before-is, sizes)) ∙ sym number-feeds
+  number-feeds = x .numbered ∙ ap (λ (k : ℕ). k + 1) (whole-feeds (x .stands .whole) ∙ ap feedsIn (sym (stands-before (x .stands))))
 
   number-small : number ≤ length s
-  number-small = omega (arith, number-feeds, feeds-le (take (length s - d) s), inside, ap length before-is, sizes)
+  number-small =
+      omega (arith, number-feeds, feeds-le (take (length s - d) s), ap length (stands-before (x .stands)), stands-sizes (x .stands), stands-inside (x .stands))
+
+  pub counted-there : length s < 2 ^ 64 → (feedsIn (take (length s - d) s) + 1) % 2 ^ 64 ≡ number
+  counted-there h = mod-eq-of-lt (omega (arith, h, number-small, number-feeds)) ∙ sym number-feeds
 
 record-one : {l : List ℕ} {m n : Record} → Answers Sm30 Ordinary l (read m) → Answers Sm30 Ordinary l (read n) → m ≡ n
 record-one {l} {m} {n} h k = let e = answers-unique Sm30 Ordinary l (read m) (read n) h k in cc
@@ -196,16 +174,38 @@ pub text-there : {s : List ℕ} {n : ℕ} {a : Answer} → LastIs s n a → (t :
 text-there (too-long i) = (refusedText 22, refused)
 text-there (no-register i k) = (refusedText 6, refused)
 text-there (nowhere i k z) = (bytes "none", none-found)
-text-there (at-distance i k p t l ls e w q x z) = (
+text-there (at-distance i k {p = p} {l = l} {ls = ls} y x z) = (
   foundText (length (linesOf p) + 1) (x .spelled),
-  line-found (record { before-it = p; from-it = t; both = e; whole = w; far = refl; line = l; others = ls; lines = q; accepted = x .accepted; numbered = refl }),
+  line-found (record { before-it = p; line = l; behind-it = ls; stands = y; accepted = x .accepted; numbered = refl }),
 )
 
-pub every-question : (s : List ℕ) (n : ℕ) → (t : List ℕ) × Printed s n t
+-- it can be computed by the reader's own reading
+abbrev foundBy : List ℕ → ℕ → reading.Answer → List ℕ
+foundBy s d (read m) = foundText (feedsIn (take (length s - d) s) + 1) m
+foundBy s d (reading.refused k) = []
+foundBy s d (reading.refused-at k p) = []
+
+abbrev textBy : List ℕ → Answer → List ℕ
+textBy s (distance d) = foundBy s d (ownAnswer (before lineFeed (drop (length s - d) s)))
+textBy s none-has = bytes "none"
+textBy s (refused-by k) = refusedText k
+
+abbrev pub computed : List ℕ → ℕ → List ℕ
+computed s n = textBy s (lastOf ownAnswer s n) ++ (lineFeed ∷ [])
+
+text-is : {s t : List ℕ} {a : Answer} → TextOf s a t → t ≡ textBy s a
+text-is {s} (line-found {d = d} {m = m} x) =
+    let e = answers-unique Sm30 Ordinary (before lineFeed (drop (length s - d) s)) (read m) (ownAnswer (before lineFeed (drop (length s - d) s))) (accepted-there x) (readOf-full (before lineFeed (drop (length s - d) s))) in
+    ap (λ (k : ℕ). foundText k m) (number-feeds x) ∙ ap (foundBy s d) e
+text-is none-found = refl
+text-is refused = refl
+
+-- every question has a text
+pub every-question : (s : List ℕ) (n : ℕ) → Printed s n (computed s n)
 every-question s n =
-    let h = last-is answerHere readOf-full s n in
+    let h = last-is ownAnswer readOf-full s n in
     let x = text-there h in
-    (x .0 ++ (lineFeed ∷ []), printed (as-reading h) (x .1))
+    subst (λ (t : List ℕ). Printed s n (t ++ (lineFeed ∷ []))) (text-is (x .1)) (printed (as-reading h) (x .1))
 
 -- it has room
 refused-short : (k : ℕ) → k < 2 ^ 64 → length (refusedText k) ≤ mostDigits + 1 + longestLine
@@ -215,7 +215,7 @@ text-short : {s t : List ℕ} {n : ℕ} {a : Answer} → LastIs s n a → TextOf
 text-short (too-long i) refused = refused-short 22 (omega arith)
 text-short (no-register i k) refused = refused-short 6 (omega arith)
 text-short (nowhere i k z) none-found = omega arith
-text-short (at-distance i k p t l ls e w q x z) (line-found {number = number} {m = m} y) =
+text-short (at-distance i k w x z) (line-found {number = number} {m = m} y) =
     simp length-append (omega (arith, decimal-short number (omega (arith, number-small y, i)), standard-length m (legal-there y)))
 
 pub printed-short : {s t : List ℕ} {n : ℕ} → Printed s n t → length t ≤ answerRoom

@@ -1,5 +1,5 @@
 -- How a listing divides into lines: its first line, whole lines before others, one line more. Assumes nothing.
-use Prim.Native.Nat.{ℕ, suc, _+_, _≤_, _<_}
+use Prim.Native.Nat.{ℕ, suc, _+_, _-_, _≤_, _<_}
 use native.Mathlib.Numerals.{add-one}
 use native.Mathlib.Omega.{arith}
 use mathlib.Core.Path.{_≡_, refl, sym, ap, _∙_}
@@ -7,11 +7,11 @@ use mathlib.Core.Bool.{Bool, true, false, not, cond}
 use mathlib.Core.List.{List, [], _∷_, _++_, append-assoc, append-nil}
 use lib.Dec.{eqb}
 use lib.ListN.{length, take, drop, getD, length-append, length-drop, drop-of-length-le}
-use lib.Seq.{drop-drop, drop-cons, append-snoc}
+use lib.Seq.{drop-drop, drop-cons, append-snoc, take-at, drop-at}
 use borrow.Author.Tests.{eq-eqb, ne-eqb, eqb-true, not-true}
 use Rattle.signs.specs.Bytes.{lineFeed, All}
 use Rattle.signs.specs.Bytes as bytes
-use Rattle.lines.specs.Lines.{lastLine, linesWith, linesOf, Ended, feed, more, WholeLines, no-line, some-lines}
+use Rattle.lines.specs.Lines.{lastLine, linesWith, linesOf, Ended, feed, more, WholeLines, no-line, some-lines, Stands}
 use Rattle.lines.specs.Until.{lengthTo, before, behind}
 
 -- ==== where a byte stands
@@ -171,24 +171,62 @@ cut acc (b ∷ s) x zs h e = go (eqb b lineFeed) refl e (cut (acc ++ (b ∷ []))
         record { line = b ∷ c .line; rest = c .rest; whole = ap (_∷_ b) (c .whole); is = sym (append-assoc acc (b ∷ []) (c .line)) ∙ c .is; behind-it = c .behind-it }
 
 -- whole lines, and behind them a listing that begins with the line
-pub record Standing (s : List ℕ) (xs zs : List (List ℕ)) : Type 0 where
-  pub before-it : List ℕ
-  pub from-it : List ℕ
-  pub both : s ≡ before-it ++ from-it
-  pub whole : WholeLines before-it
-  pub lines : linesOf from-it ≡ zs
-  pub wide : length before-it ≡ widths xs
+record Parted (s : List ℕ) (xs zs : List (List ℕ)) : Type 0 where
+  before-it : List ℕ
+  from-it : List ℕ
+  both : s ≡ before-it ++ from-it
+  whole : WholeLines before-it
+  lines : linesOf from-it ≡ zs
+  wide : length before-it ≡ widths xs
 
-pub standing : (xs : List (List ℕ)) (s : List ℕ) (zs : List (List ℕ)) → 0 < length zs → linesOf s ≡ xs ++ zs → Standing s xs zs
-standing [] s zs h e = record { before-it = []; from-it = s; both = refl; whole = no-line; lines = e; wide = refl }
-standing (x ∷ xs) s zs h e =
+parted : (xs : List (List ℕ)) (s : List ℕ) (zs : List (List ℕ)) → 0 < length zs → linesOf s ≡ xs ++ zs → Parted s xs zs
+parted [] s zs h e = record { before-it = []; from-it = s; both = refl; whole = no-line; lines = e; wide = refl }
+parted (x ∷ xs) s zs h e =
     let c = cut [] s x (xs ++ zs) (rw (length-append xs zs) (omega arith)) e in
-    let f = standing xs (c .rest) zs h (c .behind-it) in
+    let f = parted xs (c .rest) zs h (c .behind-it) in
     record {
       before-it = (c .line ++ (lineFeed ∷ [])) ++ f .before-it;
       from-it = f .from-it;
-      both = c .whole ∙ ap (λ (y : List ℕ). c .line ++ (lineFeed ∷ y)) (f .both) ∙ sym (append-assoc (c .line) (lineFeed ∷ []) (f .before-it ++ f .from-it)) ∙ sym (append-assoc (c .line ++ (lineFeed ∷ [])) (f .before-it) (f .from-it));
+      both =
+          c .whole
+          ∙ ap (λ (y : List ℕ). c .line ++ (lineFeed ∷ y)) (f .both)
+          ∙ sym (append-assoc (c .line) (lineFeed ∷ []) (f .before-it ++ f .from-it))
+          ∙ sym (append-assoc (c .line ++ (lineFeed ∷ [])) (f .before-it) (f .from-it));
       whole = whole-append (whole-by (c .line) lineFeed refl) (f .whole);
       lines = f .lines;
       wide = length-append (c .line ++ (lineFeed ∷ [])) (f .before-it) ∙ omega (arith, f .wide, length-append (c .line) (lineFeed ∷ []), ap length (c .is));
     }
+
+-- each line of a listing stands somewhere in it
+pub standing : (xs : List (List ℕ)) (s l : List ℕ) (ys : List (List ℕ)) → linesOf s ≡ xs ++ (l ∷ ys) → (p : List ℕ) × Stands s (length s - widths xs) p l ys
+standing xs s l ys e =
+    let f = parted xs s (l ∷ ys) (omega arith) e in
+    let u = ap length (f .both) ∙ length-append (f .before-it) (f .from-it) in
+    (f .before-it, record { from-it = f .from-it; both = f .both; whole = f .whole; lines = f .lines; far = omega (arith, u, f .wide) })
+
+some-byte : (t l : List ℕ) (ls : List (List ℕ)) → linesOf t ≡ l ∷ ls → 0 < length t
+unfolding linesWith
+some-byte [] l ls e = let z : _≡_ {A = ℕ} 0 1 = cc in absurd (omega arith)
+some-byte (b ∷ t) l ls e = omega arith
+
+-- where it stands the listing divides
+module _ {s : List ℕ} {d : ℕ} {p l : List ℕ} {ls : List (List ℕ)} (x : Stands s d p l ls) where
+  pub stands-sizes : length s ≡ length p + d
+  stands-sizes = ap length (x .both) ∙ length-append p (x .from-it) ∙ ap (λ (k : ℕ). length p + k) (x .far)
+
+  pub stands-inside : length s - d < length s
+  stands-inside = omega (arith, stands-sizes, x .far, some-byte (x .from-it) l ls (x .lines))
+
+  pub stands-before : take (length s - d) s ≡ p
+  stands-before = ap (take (length s - d)) (x .both) ∙ take-at p (x .from-it) (length s - d) (omega (arith, stands-sizes))
+
+  pub stands-from : drop (length s - d) s ≡ x .from-it
+  stands-from = ap (drop (length s - d)) (x .both) ∙ drop-at p (x .from-it) (length s - d) (omega (arith, stands-sizes))
+
+  -- it is what stands there up to a line feed
+  pub stands-line : l ≡ before lineFeed (drop (length s - d) s)
+  stands-line = let e = sym (x .lines) ∙ ap linesOf (sym stands-from) ∙ first-line s (length s - d) stands-inside in cc
+
+  -- it stands there behind any other whole lines
+  pub stands-behind : {r : List ℕ} → WholeLines r → Stands (r ++ x .from-it) d r l ls
+  stands-behind w = record { from-it = x .from-it; both = refl; whole = w; lines = x .lines; far = x .far }

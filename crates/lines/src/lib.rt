@@ -4,7 +4,7 @@ ghost use Prim.Native.Nat.{_+_, _-_, _≤_};
 ghost use lib.ListN.{length, drop};
 ghost use Rattle.lines.specs.Until.{lengthTo};
 
-// Where the first b stands from `at` on, or the end.
+// Where the first b stands from `at` on; where none does, the end, or `at` itself if it is past the end.
 pub fn until(s: &[u8], at: usize, b: u8) -> usize
     ensures { λ r. ⌜ (r ≡ at + lengthTo b (drop at (now (s .entry)))) × (r ≤ at + (length (now (s .entry)) - at)) ⌝ }
 {

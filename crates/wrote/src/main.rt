@@ -7,6 +7,9 @@ use libc::STDERR_FILENO;
 use libc::STDIN_FILENO;
 use libc::STDOUT_FILENO;
 use record::Word;
+ghost use Prim.Native.Nat.{_≤_};
+ghost use lib.ListN.{length};
+ghost use Rattle.lastline.specs.Steps.{answerRoom};
 
 // One byte more than a listing may have: a longer one is seen to be too long.
 const INPUT: usize = 65537;
@@ -28,11 +31,12 @@ fn say_first(s: &[u8], n: usize) -> bool {
     io::write_all(STDOUT_FILENO, &s[0..n])
 }
 
-// The buffer has room, so that there is a text.
-fn say_answer(listing: &[u8], register: Word) {
-    let mut out = [0u8; OUTPUT];
-    if let Said::Length(n) = lastline::answer(listing, register, &mut out) {
-        say_first(&out, n);
+// With that room there is a text (`no-room` of `Lays` is what a shorter buffer gets).
+fn say_answer(listing: &[u8], register: Word, out: &mut [u8])
+    requires { ⌜ answerRoom ≤ length (now out) ⌝ }
+{
+    if let Said::Length(n) = lastline::answer(listing, register, out) {
+        say_first(out, n);
     }
 }
 
@@ -103,7 +107,8 @@ fn main() {
     let mut input = [0u8; INPUT];
     let n = io::read_full(STDIN_FILENO, &mut input);
     if let Question::Of(register) = asked {
-        say_answer(&input[..n], register);
+        let mut out = [0u8; OUTPUT];
+        say_answer(&input[..n], register, &mut out);
         return;
     }
     say_distances(&input[..n]);

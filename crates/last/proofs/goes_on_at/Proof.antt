@@ -1,4 +1,4 @@
--- `last::passes` meets its contract: no line before, or one that is read.
+-- `last::goes_on_at` meets its contract: no line before, or one that is read.
 -- Assumes nothing.
 use native.Mathlib.Omega.{arith}
 use mathlib.Core.Path.{_≡_, sym, _∙_}
@@ -8,8 +8,8 @@ use Rattle.last.specs.BackLaws.{end-in, start-in}
 use Rattle.last.specs.Back.{goesOn}
 use borrow.Author.Tests.{eq-eqb, ne-eqb}
 use borrow.Author.Needs.{needs}
-use Rattle.last.proofs.passes.Statement.{statement}
-use Rattle.last.proofs.passes.Tie as tie
+use Rattle.last.proofs.goes_on_at.Statement.{statement}
+use Rattle.last.proofs.goes_on_at.Tie as tie
 
 left-requires : tie.Need-left-requires
 left-requires c κs = search needs
@@ -48,8 +48,8 @@ returns-2 c =
       c .before .before .before .before .before .left .ensures,
     )
 
-pub passes-spec : {M : Type 1} → statement M
-passes-spec =
+pub goes-on-at-spec : {M : Type 1} → statement M
+goes-on-at-spec =
     tie.close
     (tie.spec
     left-requires
