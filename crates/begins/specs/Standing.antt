@@ -48,6 +48,7 @@ past a {s} {t} {p} x = moved (ap (λ (v : List ℕ). a ++ v) (append-nil s)) ref
 -- ==== names
 
 name_stands : (ns : List Name) (k : ℕ) → k < length ns → Stands (head_text ns) (name_start ns k) (get_or ns k [])
+name_stands [] k h = elim h [ ]
 name_stands (n ∷ ns) zero h = front n (dotted ns)
 name_stands (n ∷ []) (suc k) h = absurd (omega arith)
 name_stands (n ∷ m ∷ ns) (suc k) h =
@@ -284,6 +285,7 @@ module _ (l : List ℕ) (t : LineTree) (shaped : Shaped l t) where
   outside_at p o = go registers_at o
     where
       go : {rs : List Register} → EachStands l rs → FirstOutside rs p → (q : Place) × (file_size q ≤ number_of q) × Stands l p (register_text q)
+      go none x3 = elim x3 [ ]
       go (more {q = q} x xs) (here h) = (q, h, x)
       go (more x xs) (later i o) = go xs o
 
@@ -292,10 +294,12 @@ module _ (l : List ℕ) (t : LineTree) (shaped : Shaped l t) where
   before_outside p o n q h i = go (registers_of t) _ 0 (line_rising t) o h
     where
       not_below : (rs : List Register) (m k : ℕ) → Rising m k rs → Listed (n, q) rs → k ≤ n
+      not_below [] m k x x3 = elim x3 [ ]
       not_below (r ∷ rs) m k x (listed_here e) = let d : n ≡ r.0 = ap (λ (y : Register). y.0) e in omega (arith, x.0)
       not_below (r ∷ rs) m k x (listed-later l) = let d = not_below rs m (suc r.0) x.1 l in omega (arith, x.0)
 
       go : (rs : List Register) (m k : ℕ) → Rising m k rs → FirstOutside rs p → Listed (n, q) rs → Inside q
+      go [] m k x x4 _ = elim x4 [ ]
       go ((j, r) ∷ rs) m k x (here e) (listed_here f) = let d : n ≡ p = ap (λ (y : Register). y.0) f in absurd (omega arith)
       go ((j, r) ∷ rs) m k x (here e) (listed-later l) = let d = not_below rs m (suc p) x.1 l in absurd (omega arith)
       go ((j, r) ∷ rs) m k x (later e o) (listed_here f) = subst Inside (sym (ap (λ (y : Register). y.1) f)) e

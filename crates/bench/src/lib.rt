@@ -1,4 +1,6 @@
 // The bench: a line is read, a record is written, a record is executed. What the three promise together stands in specs/Demands.antt.
+#![tactic(auto)]
+
 ghost use Rattle.std.specs.Prelude.{◌≡◌};
 ghost use Rattle.record.specs.Registers.{files};
 ghost use Rattle.rules.specs.Executing.{run};

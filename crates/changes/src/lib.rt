@@ -1,4 +1,6 @@
 // The registers at the start of a listing, and what is printed of those that differ from it at the end.
+#![tactic(auto)]
+
 ghost use Rattle.std.specs.Prelude.{◌≡◌, ◌<◌};
 ghost use Rattle.record.specs.Registers.{word_count, count_of, word, reg, files};
 ghost use Rattle.record.specs.Registers as held;
@@ -27,7 +29,7 @@ const PREDS: usize = record::PREDS as usize;
 const ONES: u32 = 0x0101_0101;
 
 // How many bytes of the lent buffer were used, or that it is too short.
-#[derive(Drop)]
+#[derive(Clone, Copy)]
 pub enum Printed {
     Length(usize),
     NoRoom,

@@ -1,4 +1,6 @@
 // The comparison of set and setp, what they write, and the test of slct, as functions of the numbers that the registers hold.
+#![tactic(auto)]
+
 ghost use Rattle.std.specs.Prelude.{◌≡◌, ◌^◌, ◌≤◌};
 ghost use Rattle.std.specs.Float.{binary32, binary64};
 ghost use Rattle.std.specs.Float.Ieee.{of_bits, is_nan};
@@ -9,7 +11,7 @@ use record::{BoolOp, Cmp6, CmpF, CmpOp, CmpU, DataType, SetType, SlctType};
 use registers::{HALF_SIZE, WORD_SIZE};
 
 // A compared value is a whole number, a single or a double. Whole numbers of a signed type are moved up by half of their range.
-#[derive(Drop)]
+#[derive(Clone, Copy)]
 pub enum Compared {
     Whole(u64),
     Single(f32),

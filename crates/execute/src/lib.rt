@@ -1,4 +1,6 @@
 // Executes one record on the four lent files: reads all sources, computes, writes the places.
+#![tactic(auto)]
+
 ghost use Rattle.std.specs.Prelude.{◌≡◌, cond, set};
 ghost use Rattle.record.specs.Registers.{files};
 ghost use Rattle.rules.specs.Executing.{selected_word, form_c, form_d, condition_holds, combined_of, sizes_fit, preds_fit, guard_holds, outcome, run};
@@ -12,7 +14,7 @@ use record::{
 };
 
 // Done, skipped (guard false), or refused with the documents' number.
-#[derive(Drop)]
+#[derive(Clone, Copy)]
 pub enum Executed {
     Done,
     Skipped,
@@ -20,7 +22,7 @@ pub enum Executed {
 }
 
 // What an instruction writes: a word, a half-word, a double-word, or the places of a destination.
-#[derive(Drop)]
+#[derive(Clone, Copy)]
 enum Write {
     Word(Word, u32),
     Half(Half, u16),

@@ -1,5 +1,7 @@
 // Where the operands of a line go wrong: the first that no legal list under this head has after the ones before it. The first operands are tried
 // with every ending that a list may need; what a legal list is, `fills` and `fits` decide.
+#![tactic(auto)]
+
 ghost use Rattle.std.specs.Prelude.{◌≡◌};
 ghost use Rattle.begins.specs.Searches.{turns_at, searched};
 ghost use Rattle.fillplace.specs.Tries.{fits, is_full, is_filled, none, any_word, typed, row_operand, any_of, any_pred, entry, completed, tried, begins_filled, guess_of, operand_place_of};

@@ -1,4 +1,6 @@
 // The operands of a line, taken into the instruction that its head names.
+#![tactic(auto)]
+
 ghost use Rattle.std.specs.Prelude.{◌≡◌};
 ghost use Rattle.kinds.specs.Registers.{bare_word, bare_pred, destination_of};
 ghost use Rattle.fills.specs.Fills.{tree_at, whole_by, part_by, selected_from, start_plain, start_combine, start_from, last_by, plain_form, merge_form, combine_form, form_from, scalar_by, scalar_end, scalar_from, masked_by, masked_from, laned_by, laned_from, lanes_with, lanes_by, lanes_from, alone_by, with_by, combination_from, comparison_by, comparison_end, comparison_from, choice_by, choice_from, arithmetic_from, vset_from, vset_lanes_from, arithmetic_lanes_from, set_from, setp_from, pred_last, selp_from, slct_from, filled_of};
@@ -14,7 +16,7 @@ use record::{
 use tree::{Operands, Spot, Tree};
 
 // The instruction with the line's operands, or the index of the first operand that is wrong.
-#[derive(Drop)]
+#[derive(Clone, Copy)]
 pub enum Filled {
     Full(Instruction),
     Wrong(usize),
@@ -39,40 +41,40 @@ pub fn tree_at(o: Operands, k: usize) -> Tree
 
 // ---- scalar video
 
-#[derive(Drop)]
+#[derive(Clone, Copy)]
 enum SelectedFound {
     Is(Selected),
     Not,
 }
 
 // d, with what the head says of the form: c is not read yet.
-#[derive(Drop)]
+#[derive(Clone, Copy)]
 enum Start {
     Plain(Word),
     Merge(Word, Selector),
     Combine(Op2, Word),
 }
 
-#[derive(Drop)]
+#[derive(Clone, Copy)]
 enum StartFound {
     Is(Start),
     Not,
 }
 
 // The last operand, or the index at which the operands are wrong.
-#[derive(Drop)]
+#[derive(Clone, Copy)]
 enum LastFound {
     Is(Word),
     Wrong(usize),
 }
 
-#[derive(Drop)]
+#[derive(Clone, Copy)]
 enum FormFound {
     Is(Form),
     Wrong(usize),
 }
 
-#[derive(Drop)]
+#[derive(Clone, Copy)]
 enum ScalarFound {
     Is(Scalar),
     Wrong(usize),
@@ -252,31 +254,31 @@ fn scalar_of(s: Scalar, o: Operands) -> ScalarFound
 
 // ---- the forms with 2 and 4
 
-#[derive(Drop)]
+#[derive(Clone, Copy)]
 struct Masked {
     word: Word,
     mask: Mask,
 }
 
-#[derive(Drop)]
+#[derive(Clone, Copy)]
 enum MaskedFound {
     Is(Masked),
     Not,
 }
 
-#[derive(Drop)]
+#[derive(Clone, Copy)]
 struct Laned {
     word: Word,
     digits: Digits,
 }
 
-#[derive(Drop)]
+#[derive(Clone, Copy)]
 enum LanedFound {
     Is(Laned),
     Not,
 }
 
-#[derive(Drop)]
+#[derive(Clone, Copy)]
 enum LanesFound {
     Is(Lanes),
     Wrong(usize),
@@ -387,13 +389,13 @@ fn lanes_of(l: Lanes, o: Operands) -> LanesFound
 
 // ---- set, setp
 
-#[derive(Drop)]
+#[derive(Clone, Copy)]
 enum CombinationFound {
     Is(Combination),
     Wrong(usize),
 }
 
-#[derive(Drop)]
+#[derive(Clone, Copy)]
 enum ComparisonFound {
     Is(Comparison),
     Wrong(usize),
@@ -482,7 +484,7 @@ fn comparison_of(s: Comparison, o: Operands) -> ComparisonFound
 
 // ---- selp, slct
 
-#[derive(Drop)]
+#[derive(Clone, Copy)]
 enum ChoiceFound {
     Is(Choice),
     Wrong(usize),
@@ -518,7 +520,7 @@ fn choice_of(s: Choice, o: Operands) -> ChoiceFound
 }
 
 // c of selp, where it is the fourth operand and the last.
-#[derive(Drop)]
+#[derive(Clone, Copy)]
 enum LastPred {
     Is(Pred),
     Wrong(usize),

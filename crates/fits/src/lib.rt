@@ -1,4 +1,6 @@
 // Whether the modifiers and the operands of a record fit, and what stands where a mask or selector is left out.
+#![tactic(auto)]
+
 ghost use Rattle.std.specs.Prelude.{◌≡◌};
 ghost use Rattle.record.specs.Modifiers.{kind_of, is_eq_ne, is_six, is_unsigned_op, is_float_op, cmp_fits, is_f32, ftz_fits, comparison_fits, instruction_modifiers_fit, modifiers_fit};
 ghost use Rattle.record.specs.Operands.{type_bits, operand_bits, by_width, some_lane, spare_lanes_fit, mask_fits, highest_digit, digit_fits, spare_digit_fits, digits_fit, lanes_fit, sources_fit, choice_fits, instruction_operands_fit, operands_fit, full_mask, default_a, default_b, default_digits};

@@ -1,4 +1,6 @@
 // An operand by its kind: a word, a predicate, a register by width, a predicate with optional `!`, the destination of setp.
+#![tactic(auto)]
+
 ghost use Rattle.std.specs.Prelude.{◌≡◌};
 ghost use Rattle.kinds.specs.Registers.{as_word, as_pred, as_operand, bare_word, bare_pred, bare_operand, condition_by, condition_of, spot_by, spot_of, pair_by, second_only_by, spots_by, one_by, destination_of};
 
@@ -7,19 +9,19 @@ use tree::{Place, Spot, Tree};
 
 // ---- a register of the kind that the place takes
 
-#[derive(Drop)]
+#[derive(Clone, Copy)]
 pub enum WordFound {
     Is(Word),
     Not,
 }
 
-#[derive(Drop)]
+#[derive(Clone, Copy)]
 pub enum PredFound {
     Is(Pred),
     Not,
 }
 
-#[derive(Drop)]
+#[derive(Clone, Copy)]
 pub enum OperandFound {
     Is(Operand),
     Not,
@@ -93,7 +95,7 @@ pub fn bare_operand(t: Tree) -> OperandFound
 
 // ---- c of set and setp: a predicate with optional `!`
 
-#[derive(Drop)]
+#[derive(Clone, Copy)]
 pub enum ConditionFound {
     Is(Condition),
     Not,
@@ -121,13 +123,13 @@ pub fn condition_of(t: Tree) -> ConditionFound
 
 // ---- d of setp: one predicate, or a pair of which one may be `_`
 
-#[derive(Drop)]
+#[derive(Clone, Copy)]
 pub enum DestinationFound {
     Is(Destination),
     Not,
 }
 
-#[derive(Drop)]
+#[derive(Clone, Copy)]
 enum SpotFound {
     Is(Pred),
     Dropped,

@@ -1,5 +1,7 @@
 // Who wrote this last: the last accepted line of a listing that has a given `%r` as destination. The listing is read from its end back, a line at a
 // time, and no further than to the line found.
+#![tactic(auto)]
+
 ghost use Rattle.std.specs.Prelude.{◌≡◌, [], ◌∷◌, ◌≤◌, ◌<◌, length};
 ghost use Rattle.record.specs.Registers.{r, operand_place};
 ghost use Rattle.rules.specs.Executing.{form_d, destination_places, destinations};
@@ -22,7 +24,7 @@ const LISTING_TOO_LONG: u8 = 22;
 const OUT_OF_FILE: u8 = 6;
 
 // How far the line's first byte is from the end of the listing, that no line has the register, or the documents' number of the refusal.
-#[derive(Drop)]
+#[derive(Clone, Copy)]
 pub enum Last {
     Distance(usize),
     Nowhere,
@@ -194,7 +196,7 @@ fn found_at(s: &[u8], gone: usize) -> Last
 // ---- the reader
 
 // It remembers the listing and how far back it has gone: so many bytes from the listing's end.
-#[derive(Drop)]
+#[derive(Clone, Copy)]
 struct Back<'a> {
     listing: &'a [u8],
     gone: usize,

@@ -1,4 +1,6 @@
 // What `./bench --last WORD` makes of its word and of a listing: which register is asked for, and the text of the answer to who wrote it last.
+#![tactic(auto)]
+
 ghost use Rattle.std.specs.Prelude.{◌≡◌, ℕ, ◌≤◌, List};
 ghost use Rattle.record.specs.Refusals.{Legal};
 ghost use Rattle.text.specs.Buffer.{buffer, Puts};
@@ -18,14 +20,14 @@ const ANSWER_ROOM: usize = 99;
 const LINE_FEED: u8 = 10;
 
 // What the word is.
-#[derive(Drop)]
+#[derive(Clone, Copy)]
 pub enum Asked {
     Register(Word),
     Other,
 }
 
 // How many bytes of the lent buffer were used, or that it is too short.
-#[derive(Drop)]
+#[derive(Clone, Copy)]
 pub enum Said {
     Length(usize),
     NoRoom,

@@ -55,6 +55,7 @@ module _ (target : Target) (x : Record) (allowed : Allowed target x) (op : Arith
       each : (i : ℕ) (c : Word) → is_inside (r c) ≡ true → (y : Record) → Listed y (clamped_lines x.guard op dtype l t e i c) → ScalarLine target x.guard y
       each i c k y (here q) =
           rw q (record { allowed = clamp_allowed i; guarded = refl; o = computes op dtype true; s = lane_scalar l i (Merge t (part_selector l.width i) t); scalar = refl })
+      each i c k y (later (later x7)) = elim x7 [ ]
       each i c k y (later (here q)) =
           rw q (record { allowed = part_allowed i c k; guarded = refl; o = computes Vadd dtype false; s = part_scalar dtype t (part_selector l.width i) e c; scalar = refl })
 

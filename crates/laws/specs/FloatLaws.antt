@@ -125,13 +125,13 @@ zero_not_below : (x : ℕ) → x % top binary32 ≡ 0 → lt (of_bits binary32 0
 unfolding holds_z
 zero_not_below x h =
     let plain : is_nan (of_bits binary32 x) ≡ false = rw (nan_pattern binary32 x, h) in
-    let zero : (negative : Bool) → le_z (pos 0) (cond negative (neg_ℤ (pos 0)) (pos 0)) ≡ true = λ negative. elim negative [ true ↦ refl | false ↦ refl ] in
+    let zero : (negative : Bool) → le_z (pos 0) (cond negative (neg_ℤ (pos 0)) (pos 0)) ≡ true = λ negative. elim negative as (λ n. le_z (pos 0) (cond n (neg_ℤ (pos 0)) (pos 0)) ≡ true) [ true ↦ refl | false ↦ refl ] in
     ordered_by_bits binary32 0 x (nan_pattern binary32 0) plain Le ∙ rw h (zero (leb (top binary32) x))
 
 flushed_picks_a : (c a b : ℕ) → c % top binary32 < hid binary32 → slct_of (SlctType.F32 true) c a b ≡ a
 unfolding not_below_zero
 flushed_picks_a c a b h =
-    let zero : (negative : Bool) → cond negative (top binary32) 0 % top binary32 ≡ 0 = λ negative. elim negative [ true ↦ refl | false ↦ refl ] in
+    let zero : (negative : Bool) → cond negative (top binary32) 0 % top binary32 ≡ 0 = λ negative. elim negative as (λ n. cond n (top binary32) 0 % top binary32 ≡ 0) [ true ↦ refl | false ↦ refl ] in
     rw (flushed_to_zero c h, zero_not_below (cond (leb (top binary32) c) (top binary32) 0) (zero (leb (top binary32) c)))
 
 -- with `ftz` a subnormal c of either sign picks a

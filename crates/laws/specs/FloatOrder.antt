@@ -195,9 +195,14 @@ unfolding eq lt is_nan
 eq_not nan w h k = absurd (true≢false h)
 eq_not (inf s) nan h k = absurd (true≢false k)
 eq_not (fin s m e) nan h k = absurd (true≢false k)
-eq_not (inf s) (inf t) h k = elim s [ true ↦ elim t [ true ↦ refl | false ↦ refl ] | false ↦ elim t [ true ↦ refl | false ↦ refl ] ]
-eq_not (inf s) (fin t n d) h k = elim s [ true ↦ refl | false ↦ refl ]
-eq_not (fin s m e) (inf t) h k = elim t [ true ↦ refl | false ↦ refl ]
+eq_not (inf true) (inf true) h k = refl
+eq_not (inf true) (inf false) h k = refl
+eq_not (inf false) (inf true) h k = refl
+eq_not (inf false) (inf false) h k = refl
+eq_not (inf true) (fin t n d) h k = refl
+eq_not (inf false) (fin t n d) h k = refl
+eq_not (fin s m e) (inf true) h k = refl
+eq_not (fin s m e) (inf false) h k = refl
 eq_not (fin s m e) (fin t n d) h k = level_not s t (m * up e * down d) (n * up d * down e)
 
 -- equal by sign and magnitude, so both zeros are equal
@@ -225,8 +230,8 @@ eq_nan_left x y h = rw (only_nan x h)
 
 pub lt_nan_right : (x y : Float) → is_nan y ≡ true → lt x y ≡ false
 unfolding lt
-lt_nan_right x y h = rw (only_nan y h) (elim x [ nan ↦ refl | inf s ↦ refl | fin s m e ↦ refl ])
+lt_nan_right x y h = rw (only_nan y h) (elim x as (λ v. lt v nan ≡ false) [ nan ↦ refl | inf s ↦ refl | fin s m e ↦ refl ])
 
 pub eq_nan_right : (x y : Float) → is_nan y ≡ true → eq x y ≡ false
 unfolding eq
-eq_nan_right x y h = rw (only_nan y h) (elim x [ nan ↦ refl | inf s ↦ refl | fin s m e ↦ refl ])
+eq_nan_right x y h = rw (only_nan y h) (elim x as (λ v. eq v nan ≡ false) [ nan ↦ refl | inf s ↦ refl | fin s m e ↦ refl ])

@@ -123,6 +123,7 @@ module _ (of : ℕ → Word → List Record) (l : Lanes) (e : Word) where
   -- what holds of the lines of each lane, whichever register of the file they take, holds of all
   module _ (P : Record → Type 0) (in_e : is_inside (r e) ≡ true) (each : (i : ℕ) (c : Word) → is_inside (r c) ≡ true → (y : Record) → Listed y (of i c) → P y) where
     from_each : (n i : ℕ) (c : Word) → is_inside (r c) ≡ true → (y : Record) → Listed y (lines_from of l.mask e n i c) → P y
+    from_each zero i c k y m = elim m [ ]
     from_each (suc n) i c k y m = go (mask_at l.mask i) m (λ d h. from_each n (suc i) d h y)
       where
         go : (m : Bool) → Listed y (cond m (of i c ++ lines_from of l.mask e n (suc i) e) (lines_from of l.mask e n (suc i) c))

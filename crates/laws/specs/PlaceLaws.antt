@@ -104,6 +104,7 @@ registers_places t =
     ∙ rw (after_places (guard_start t) (guard_registers t.guard), after_places (operands_start t) (operands_registers t.first t.others), guard_places_lem t.guard, operands_places_lem t.first t.others)
 
 place_listed : (rs : List Register) (n : ℕ) (q : Place) → Listed (n, q) rs → Listed q (map place rs)
+place_listed [] n q x' = elim x' [ ]
 place_listed (x ∷ rs) n q (here e) = here (ap place e)
 place_listed (x ∷ rs) n q (later h) = later (place_listed rs n q h)
 
@@ -238,6 +239,7 @@ all_inside x =
 
 -- a test that holds of a list, and one that does not
 pub of_every : {A : Type 0} (q : A → Bool) (l : List A) → every q l ≡ true → (x : A) → Listed x l → q x ≡ true
+of_every {A = A} q [] e x x4 = elim x4 [ ]
 of_every q (y ∷ l) e x (here h) = let k = simp and-eq-true_iff at e in rw h k.0
 of_every q (y ∷ l) e x (later h) = let k = simp and-eq-true_iff at e in of_every q l k.1 x h
 

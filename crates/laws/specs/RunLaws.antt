@@ -235,12 +235,14 @@ put_same (reg k n) v f s h =
 
 put_all_holds : (ws : List Write) (f : Files) → Sized f → Distinct (places_of ws) → ((q : Place) → Listed q (places_of ws) → Inside q)
     → (w : Write) → Listed w ws → at (put_all ws f) w.place ≡ w.value
+put_all_holds [] f s d h w x4 = elim x4 [ ]
 put_all_holds (v ∷ ws) f s d h w (here e) =
     rw e (put_all_other v.place ws (put v.place v.value f) d.0 ∙ put_same v.place v.value f s (h v.place (here refl)))
 put_all_holds (v ∷ ws) f s d h w (later e) =
     put_all_holds ws (put v.place v.value f) (put_sized v.place v.value f s) d.1 (λ q k. h q (later k)) w e
 
 none_listed : {q : Place} (qs : List Place) → qs ≡ [] → Listed q qs → ⊥
+none_listed {q = q} [] z x'' = elim x'' [ ]
 none_listed (s ∷ qs) z (here e) = let y : ◌≡◌ {A = ℕ} 0 1 = cc in omega arith
 none_listed (s ∷ qs) z (later e) = let y : ◌≡◌ {A = ℕ} 0 1 = cc in omega arith
 
@@ -251,6 +253,7 @@ two_places : (a b : ℕ) → not (eqb a b) ≡ true → Distinct (pred a ∷ pre
 two_places a b e = (once (pred b ∷ []) refl, one_place (pred b))
   where
     once : (qs : List Place) → qs ≡ pred b ∷ [] → Listed (pred a) qs → ⊥
+    once [] z x'' = elim x'' [ ]
     once (s ∷ qs) z (here k) =
         let y : a ≡ b = cc in
         let t : not (eqb a b) ≡ false = rw (eq-eqb a b y) in
@@ -279,6 +282,7 @@ distinct (Selp s c) e = one_place (operand_place s.d)
 distinct (Slct ctype s c) e = one_place (operand_place s.d)
 
 among_front : (xs ys : List Place) {q : Place} → Listed q xs → Listed q (xs ++ ys)
+among_front [] ys {q = q} x' = elim x' [ ]
 among_front (x ∷ xs) ys (here e) = here e
 among_front (x ∷ xs) ys (later e) = later (among_front xs ys e)
 

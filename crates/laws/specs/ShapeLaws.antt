@@ -95,6 +95,7 @@ good_text t g =
     all_append (all_append (all_append list (blanks g.ending)) (sign 59 refl)) (blanks g.behind)
 
 none_here : {l : List ℕ} → NoFeed l → Listed line_feed l → ⊥
+none_here none x3 = elim x3 [ ]
 none_here (more {b} e k) (here h) =
     let z : false ≡ true = subst (λ (k : ℕ). is_no_feed k ≡ true) (sym h) e in
     let y : ◌≡◌ {A = ℕ} 0 1 = cc in

@@ -4,7 +4,7 @@ use Rattle.std.proofs.Common.{arith, sym, ◌∙◌, ltb-true, leb-true, le-leb}
 use Rattle.std.proofs.Math.Path.{ap}
 use Rattle.std.proofs.Math.Bool.{and-eq-true_iff}
 use mathlib.Core.List.{List, [], ◌∷◌, map}
-use Rattle.signs.specs.Lists.{Listed}
+use Rattle.signs.specs.Lists.{later, Listed}
 use Rattle.signs.specs.Lists.Listed.{here}
 use Rattle.record.specs.Registers.{Files, files, r, number_of, at, Inside, is_inside, word_count}
 use Rattle.record.specs.Operands.{lanes_fit, mask_fits, digits_fit, instruction_operands_fit}
@@ -139,6 +139,7 @@ module _ (target : Target) (x : Record) (allowed : Allowed target x) (o : Operat
   lines_scalar e inside y m = lanes_each (lane_lines x.guard o l e) l e (ScalarLine target x.guard) (word_range e inside) each registers_range.3 y m
     where
       each : (i : ℕ) (c : Word) → is_inside (r c) ≡ true → (y : Record) → Listed y (lane_lines x.guard o l e i c) → ScalarLine target x.guard y
+      each i c k y (later x4) = elim x4 [ ]
       each i c k y (here q) =
           rw q (record { allowed = lane_allowed i (lane_form l e i c) (form_range l e l.add i c (word_range e inside) k); guarded = refl; o = o; s = lane_scalar l i (lane_form l e i c); scalar = refl })
 

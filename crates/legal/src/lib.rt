@@ -1,4 +1,6 @@
 // Whether a record is legal: its modifiers and operands fit, its register numbers are in their files, its pairs are apart.
+#![tactic(auto)]
+
 ghost use Rattle.std.specs.Prelude.{◌≡◌};
 ghost use Rattle.record.specs.declared.File.TheVariants.{Words, Halves, Doubles, Preds};
 ghost use Rattle.record.specs.Registers.{reg, is_inside};

@@ -1,4 +1,6 @@
 // The lines of a listing: definitions and laws (specs/); where a byte stands next, and what is left.
+#![tactic(auto)]
+
 ghost use Rattle.std.specs.Prelude.{◌≡◌, ◌+◌, ◌-◌, ◌≤◌, length, drop};
 ghost use Rattle.lines.specs.Until.{length_to};
 

@@ -1,5 +1,7 @@
 // The listing program: reads standard input and prints what crates `report` and `changes` make of it, some lines at a time, then the registers.
 // Its first argument, if it has one, is the target's name; a second one, `strict`, asks for strict reading.
+#![tactic(auto)]
+
 ghost use Rattle.std.specs.Prelude.{◌≤◌, ◌≡◌, true, length};
 ghost use Rattle.record.specs.Registers.{files};
 ghost use Rattle.report.specs.Chunks.{line_room};
@@ -78,7 +80,7 @@ fn say_listing(target: Target, mode: Mode, listing: &[u8]) {
 }
 
 // How a listing is worked, or the arguments are not what they may be.
-#[derive(Drop)]
+#[derive(Clone, Copy)]
 enum Asked {
     For(Target, Mode),
     Wrong,

@@ -1,4 +1,6 @@
 // Masks and selectors of the forms with 2 and 4: the number of each one's name (its bytes in base 128, the first the lowest), and back.
+#![tactic(auto)]
+
 ghost use Rattle.std.specs.Prelude.{◌≡◌, cond, ◌+◌, ◌*◌, ◌^◌, ◌≤◌, ◌<◌};
 ghost use Rattle.base.specs.Pack.{radix, pack, NumberSpells};
 ghost use Rattle.rules.specs.Numbers.{lanes};
@@ -12,13 +14,13 @@ const LETTER_B: u64 = 98;
 
 const LETTER_H: u64 = 104;
 
-#[derive(Drop)]
+#[derive(Clone, Copy)]
 pub enum MaskFound {
     Is(Mask),
     Not,
 }
 
-#[derive(Drop)]
+#[derive(Clone, Copy)]
 pub enum DigitsFound {
     Is(Digits),
     Not,

@@ -1,5 +1,7 @@
 // The names of document 01 and of T-01, each as one number (base/specs/Pack.antt): of opcodes, modifiers and scalar selectors, spelled here and nowhere else in code.
 // Masks and lane selectors are made of digits and stand in crate masks.
+#![tactic(auto)]
+
 ghost use Rattle.std.specs.Prelude.{◌≡◌};
 ghost use Rattle.base.specs.Pack.{NumberSpells};
 ghost use Rattle.names.specs.Back.{Means, OpcodeBack, VideoBack, SetTypeBack, TypeBack, SixBack, CmpBack, BoolBack, Op2Back, SelectorBack};
@@ -340,7 +342,7 @@ pub fn selector_number(t: Selector) -> u64
 
 // ---- what a number's name stands for
 
-#[derive(Drop)]
+#[derive(Clone, Copy)]
 pub enum Opcode {
     Scalar(Arith),
     Vset,
@@ -352,55 +354,55 @@ pub enum Opcode {
     Slct,
 }
 
-#[derive(Drop)]
+#[derive(Clone, Copy)]
 pub enum OpcodeName {
     Is(Opcode),
     Not,
 }
 
-#[derive(Drop)]
+#[derive(Clone, Copy)]
 pub enum VideoName {
     Is(VideoType),
     Not,
 }
 
-#[derive(Drop)]
+#[derive(Clone, Copy)]
 pub enum SetName {
     Is(SetType),
     Not,
 }
 
-#[derive(Drop)]
+#[derive(Clone, Copy)]
 pub enum TypeName {
     Is(DataType),
     Not,
 }
 
-#[derive(Drop)]
+#[derive(Clone, Copy)]
 pub enum SixName {
     Is(Cmp6),
     Not,
 }
 
-#[derive(Drop)]
+#[derive(Clone, Copy)]
 pub enum CmpName {
     Is(CmpOp),
     Not,
 }
 
-#[derive(Drop)]
+#[derive(Clone, Copy)]
 pub enum BoolName {
     Is(BoolOp),
     Not,
 }
 
-#[derive(Drop)]
+#[derive(Clone, Copy)]
 pub enum Op2Name {
     Is(Op2),
     Not,
 }
 
-#[derive(Drop)]
+#[derive(Clone, Copy)]
 pub enum SelectorName {
     Is(Selector),
     Not,

@@ -1,5 +1,7 @@
 // The tally program: reads standard input and prints what crate `passlog` makes of it, a line at a time, then the tags that the tally holds.
 // Its one argument is the floor, two hexadecimal digits.
+#![tactic(auto)]
+
 ghost use Rattle.std.specs.Prelude.{◌≤◌, ◌≡◌, true, length};
 ghost use Rattle.passlog.specs.Steps.{line_room, end_room};
 ghost use Rattle.passlog.specs.OutputLaws.{Told};
@@ -15,7 +17,7 @@ const INPUT: usize = 65537;
 const OUTPUT: usize = 1056;
 
 // Whether the system took every line's text, and the tally after the last.
-#[derive(Drop)]
+#[derive(Clone, Copy)]
 struct Said {
     all: bool,
     tally: Tally,

@@ -1,4 +1,6 @@
 // What the tally program makes of its input: a line of it as a read, the answer's text, and the tags at the end.
+#![tactic(auto)]
+
 ghost use Rattle.std.specs.Prelude.{◌≡◌, ◌+◌, ◌*◌, ◌%◌, ◌<◌, ◌≤◌, ◌++◌, length};
 ghost use Rattle.signs.specs.Digits.{decimal};
 ghost use Rattle.rules.specs.Numbers.{word_size};
@@ -45,21 +47,21 @@ const FLOOR_ROOM: usize = 2;
 const WASHED: u8 = 3;
 
 // What a line is.
-#[derive(Drop)]
+#[derive(Clone, Copy)]
 pub enum Line {
     Read(Read),
     Other,
 }
 
 // What the word FLOOR is.
-#[derive(Drop)]
+#[derive(Clone, Copy)]
 pub enum Floor {
     Is(u8),
     Other,
 }
 
 // How far the input is logged: the place and the number of the next line, how many bytes of the lent buffer were used, and the tally.
-#[derive(Drop)]
+#[derive(Clone, Copy)]
 pub struct Progress {
     pub at: usize,
     pub number: u64,
@@ -68,7 +70,7 @@ pub struct Progress {
 }
 
 // How many bytes of the lent buffer were used; that it is too short; or the number of a refusal.
-#[derive(Drop)]
+#[derive(Clone, Copy)]
 pub enum Ended {
     Length(usize),
     NoRoom,
@@ -76,7 +78,7 @@ pub enum Ended {
 }
 
 // A text put into the lent buffer, up to a place, and the tally then.
-#[derive(Drop)]
+#[derive(Clone, Copy)]
 struct Put {
     next: usize,
     tally: Tally,

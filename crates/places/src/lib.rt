@@ -1,4 +1,6 @@
 // Where a refused line went wrong: a second pass, which a line that is read does not pay for. The byte place of each refusal from 2 to 7.
+#![tactic(auto)]
+
 ghost use Rattle.std.specs.Prelude.{◌≡◌};
 ghost use Rattle.places.specs.Mirror.{pred_is, guard_good, modifier_place_of, operand_index_by, operand_index_of, legal_place_of, guard_place_of, parts_place_of, place_of};
 ghost use Rattle.shape.specs.Line.{shape_of};

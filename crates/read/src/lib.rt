@@ -1,5 +1,7 @@
 // Reads one line at a target and in a mode: its shape, its row of the modifier table, its operands, then numbers and pairs, then whether the target
 // allows it and the mode passes it. The first refusal that applies decides; then its place is looked for.
+#![tactic(auto)]
+
 ghost use Rattle.std.specs.Prelude.{◌≡◌, true, false};
 ghost use Rattle.record.specs.Modifiers.{instruction_modifiers_fit};
 ghost use Rattle.rules.specs.Reading.{Answers};
@@ -15,7 +17,7 @@ use record::{Condition, Guard, Instruction, Mode, Pred, Record, Target};
 use tree::{Guarding, Operands, Parts, Place};
 
 // The record, or the documents' number of the refusal and, if it carries one, its place: the bytes of the line before it.
-#[derive(Drop)]
+#[derive(Clone, Copy)]
 pub enum Reading {
     Record(Record),
     Refused(u8),
@@ -23,7 +25,7 @@ pub enum Reading {
 }
 
 // The same, places aside.
-#[derive(Drop)]
+#[derive(Clone, Copy)]
 enum Verdict {
     Accepted(Record),
     Numbered(u8),

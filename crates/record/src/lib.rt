@@ -1,21 +1,23 @@
 // What one line of PTX says, as a record. Reading, writing and executing stand on it; specs/ says when a record is legal, crates fits and legal test it.
 // Where it costs nothing the types rule out what a line cannot say; an illegal record can still be made.
 
+#![tactic(auto)]
+
 // Word, half-word (T-06), double-word and predicate numbers are kept apart. Each holds every number that a line can spell, 0 to 999.
-#[derive(Drop)]
+#[derive(Clone, Copy)]
 pub struct Word(pub u16);
 
-#[derive(Drop)]
+#[derive(Clone, Copy)]
 pub struct Half(pub u16);
 
-#[derive(Drop)]
+#[derive(Clone, Copy)]
 pub struct Double(pub u16);
 
-#[derive(Drop)]
+#[derive(Clone, Copy)]
 pub struct Pred(pub u16);
 
 // The four lent files, in the order in which they are lent.
-#[derive(Drop)]
+#[derive(Clone, Copy)]
 pub enum File {
     Words,
     Halves,
@@ -33,14 +35,14 @@ pub const DOUBLES: u16 = 32;
 pub const PREDS: u16 = 16;
 
 // T is u32 or s32.
-#[derive(Drop)]
+#[derive(Clone, Copy)]
 pub enum VideoType {
     U32,
     S32,
 }
 
 // set's dtype: u32 s32 f32.
-#[derive(Drop)]
+#[derive(Clone, Copy)]
 pub enum SetType {
     U32,
     S32,
@@ -48,14 +50,14 @@ pub enum SetType {
 }
 
 // The second type of slct: `ftz` stands only with f32.
-#[derive(Drop)]
+#[derive(Clone, Copy)]
 pub enum SlctType {
     S32,
     F32 { ftz: bool },
 }
 
 // The types of stype, of selp, and of slct's dtype.
-#[derive(Drop)]
+#[derive(Clone, Copy)]
 pub enum DataType {
     B16,
     B32,
@@ -71,7 +73,7 @@ pub enum DataType {
 }
 
 // A type's letter.
-#[derive(Drop)]
+#[derive(Clone, Copy)]
 pub enum Kind {
     B,
     U,
@@ -80,7 +82,7 @@ pub enum Kind {
 }
 
 // CMP6 is eq ne lt le gt ge.
-#[derive(Drop)]
+#[derive(Clone, Copy)]
 pub enum Cmp6 {
     Eq,
     Ne,
@@ -91,7 +93,7 @@ pub enum Cmp6 {
 }
 
 // What u has besides CMP6.
-#[derive(Drop)]
+#[derive(Clone, Copy)]
 pub enum CmpU {
     Lo,
     Ls,
@@ -100,7 +102,7 @@ pub enum CmpU {
 }
 
 // What f has besides CMP6.
-#[derive(Drop)]
+#[derive(Clone, Copy)]
 pub enum CmpF {
     Equ,
     Neu,
@@ -113,7 +115,7 @@ pub enum CmpF {
 }
 
 // CmpOp. `lo` and `lt` are not merged: they are two comparisons.
-#[derive(Drop)]
+#[derive(Clone, Copy)]
 pub enum CmpOp {
     Six(Cmp6),
     Unsigned(CmpU),
@@ -121,7 +123,7 @@ pub enum CmpOp {
 }
 
 // BoolOp is and, or, xor.
-#[derive(Drop)]
+#[derive(Clone, Copy)]
 pub enum BoolOp {
     And,
     Or,
@@ -129,7 +131,7 @@ pub enum BoolOp {
 }
 
 // OP2 is add min max.
-#[derive(Drop)]
+#[derive(Clone, Copy)]
 pub enum Op2 {
     Add,
     Min,
@@ -137,7 +139,7 @@ pub enum Op2 {
 }
 
 // The scalar arithmetic opcodes.
-#[derive(Drop)]
+#[derive(Clone, Copy)]
 pub enum Arith {
     Vadd,
     Vsub,
@@ -147,35 +149,35 @@ pub enum Arith {
 }
 
 // What the forms with 2 and 4 compute lane by lane (T-01): as scalar arithmetic does, or the average.
-#[derive(Drop)]
+#[derive(Clone, Copy)]
 pub enum LaneArith {
     Scalar(Arith),
     Vavrg,
 }
 
 // A predicate with optional `!`.
-#[derive(Drop)]
+#[derive(Clone, Copy)]
 pub struct Condition {
     pub inverted: bool,
     pub pred: Pred,
 }
 
 // `@`, optional `!`, a predicate; or no guard.
-#[derive(Drop)]
+#[derive(Clone, Copy)]
 pub enum Guard {
     Always,
     When(Condition),
 }
 
 // A last operand c exactly when BoolOp is present.
-#[derive(Drop)]
+#[derive(Clone, Copy)]
 pub enum Combination {
     Alone,
     With(BoolOp, Condition),
 }
 
 // The selectors of scalar video: b0 b1 b2 b3 h0 h1.
-#[derive(Drop)]
+#[derive(Clone, Copy)]
 pub enum Selector {
     B0,
     B1,
@@ -186,14 +188,14 @@ pub enum Selector {
 }
 
 // a or b of scalar video: its selector is optional.
-#[derive(Drop)]
+#[derive(Clone, Copy)]
 pub enum Selected {
     Whole(Word),
     Part(Word, Selector),
 }
 
 // Without OP2 either `d, a, b` or `d.sel, a, b, c`; with OP2 `d, a, b, c`, d bare.
-#[derive(Drop)]
+#[derive(Clone, Copy)]
 pub enum Form {
     Plain { d: Word },
     Merge { d: Word, sel: Selector, c: Word },
@@ -201,7 +203,7 @@ pub enum Form {
 }
 
 // What scalar arithmetic and vset share.
-#[derive(Drop)]
+#[derive(Clone, Copy)]
 pub struct Scalar {
     pub atype: VideoType,
     pub btype: VideoType,
@@ -211,14 +213,14 @@ pub struct Scalar {
 }
 
 // The lane width: a form with 2 has two lanes of a half, one with 4 four of a byte.
-#[derive(Drop)]
+#[derive(Clone, Copy)]
 pub enum LaneWidth {
     Half,
     Byte,
 }
 
 // The lanes that a mask names. A form with 2 has lanes 0 and 1: the others are spare room.
-#[derive(Drop)]
+#[derive(Clone, Copy)]
 pub struct Mask {
     pub lane0: bool,
     pub lane1: bool,
@@ -227,7 +229,7 @@ pub struct Mask {
 }
 
 // A lane selector: for each lane the part that it takes. The lanes that a form with 2 has not are spare room.
-#[derive(Drop)]
+#[derive(Clone, Copy)]
 pub struct Digits {
     pub lane0: u8,
     pub lane1: u8,
@@ -236,7 +238,7 @@ pub struct Digits {
 }
 
 // What the forms with 2 and 4 share: `d, a, b, c` with a mask on d and selectors on a and b. A bare operand holds its default.
-#[derive(Drop)]
+#[derive(Clone, Copy)]
 pub struct Lanes {
     pub width: LaneWidth,
     pub atype: VideoType,
@@ -252,7 +254,7 @@ pub struct Lanes {
 }
 
 // An operand by width.
-#[derive(Drop)]
+#[derive(Clone, Copy)]
 pub enum Operand {
     Word(Word),
     Half(Half),
@@ -260,7 +262,7 @@ pub enum Operand {
 }
 
 // What set and setp share: t, and what it is combined with.
-#[derive(Drop)]
+#[derive(Clone, Copy)]
 pub struct Comparison {
     pub cmp: CmpOp,
     pub combination: Combination,
@@ -271,7 +273,7 @@ pub struct Comparison {
 }
 
 // d of setp is one predicate, or a pair of which one may be `_`. `%p1` and `%p1|_` are two records.
-#[derive(Drop)]
+#[derive(Clone, Copy)]
 pub enum Destination {
     One(Pred),
     Pair(Pred, Pred),
@@ -280,7 +282,7 @@ pub enum Destination {
 }
 
 // What selp and slct share: d, a, b by width.
-#[derive(Drop)]
+#[derive(Clone, Copy)]
 pub struct Choice {
     pub dtype: DataType,
     pub d: Operand,
@@ -289,7 +291,7 @@ pub struct Choice {
 }
 
 // One case for each kind of opcode: vadd vsub vabsdiff vmin vmax; vset; vset2 vset4; vadd2 .. vmax2 vadd4 .. vmax4; set; setp; selp; slct.
-#[derive(Drop)]
+#[derive(Clone, Copy)]
 pub enum Instruction {
     Arithmetic {
         op: Arith,
@@ -331,14 +333,14 @@ pub enum Instruction {
     },
 }
 
-#[derive(Drop)]
+#[derive(Clone, Copy)]
 pub struct Record {
     pub guard: Guard,
     pub instruction: Instruction,
 }
 
 // The card that a line is read for and worked on: sm_10, sm_13, sm_20, sm_30.
-#[derive(Drop)]
+#[derive(Clone, Copy)]
 pub enum Target {
     Sm10,
     Sm13,
@@ -347,7 +349,7 @@ pub enum Target {
 }
 
 // How a line is read: as document 01 has it, or strictly (T-09).
-#[derive(Drop)]
+#[derive(Clone, Copy)]
 pub enum Mode {
     Ordinary,
     Strict,

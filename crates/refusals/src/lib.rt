@@ -1,4 +1,6 @@
 // Which refusal comes first, in the documents' order: each is looked at only when the earlier ones don't apply.
+#![tactic(auto)]
+
 ghost use Rattle.std.specs.Prelude.{◌≡◌};
 ghost use Rattle.refusals.specs.Order.{first_reading, first_executing};
 

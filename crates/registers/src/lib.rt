@@ -1,4 +1,6 @@
 // What executing and printing share of registers: one of a lent file, 0 past its end; the low 32 or 16 bits; a bit as a number.
+#![tactic(auto)]
+
 ghost use Rattle.std.specs.Prelude.{◌≡◌, ◌%◌, ◌≤◌, get_or};
 ghost use Rattle.rules.specs.Numbers.{bit, word_size, half_size};
 ghost use Rattle.rules.specs.Executing.{word_of, pred_of};

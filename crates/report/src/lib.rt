@@ -1,4 +1,6 @@
 // What the listing program prints of a listing's lines at a target and in a mode: each with its answer. Crate changes prints the registers behind them.
+#![tactic(auto)]
+
 ghost use Rattle.std.specs.Prelude.{◌≡◌, ◌<◌, ◌≤◌, ◌&&◌, length, nat_le, nat_lt};
 ghost use Rattle.record.specs.Refusals.{Legal};
 ghost use Rattle.record.specs.Registers.{Files, files};
@@ -26,7 +28,7 @@ const LINE_FEED: u8 = 10;
 const STANDARD_ROOM: usize = 160;
 
 // How far a listing is printed: the place and the number of the next line, and how many bytes of the lent buffer were used.
-#[derive(Drop)]
+#[derive(Clone, Copy)]
 pub struct Progress {
     pub at: usize,
     pub number: u64,

@@ -1,5 +1,7 @@
 // Where a head goes wrong: the first name that no row of the modifier table has after the ones before it. The first names are tried with every
 // ending that a row may need; what a row is, `heads` decides.
+#![tactic(auto)]
+
 ghost use Rattle.std.specs.Prelude.{◌≡◌};
 ghost use Rattle.begins.specs.Searches.{turns_at, searched};
 ghost use Rattle.rowplace.specs.Tries.{fits, is_found, is_row, entry, completed, tried, begins_row, guess_of, row_place_of};

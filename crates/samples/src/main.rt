@@ -1,4 +1,6 @@
 // Prints what `legal`, `write` and `execute` say of records and runs that standard input spells: second/SAMPLES.md says how, and what is answered.
+#![tactic(auto)]
+
 mod input;
 mod records;
 mod runs;
@@ -22,7 +24,7 @@ pub(crate) fn print_number(n: u64) {
 }
 
 // The values of a line `V`.
-#[derive(Drop)]
+#[derive(Clone, Copy)]
 pub(crate) struct Values {
     pub(crate) count: usize,
     pub(crate) list: [u64; 32],

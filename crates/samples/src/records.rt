@@ -9,7 +9,7 @@ use record::{
 // ---- the numbers of a line
 
 // The first three numbers, of which count are read, and the last twenty: t1 is the last. What kinds share stands at the end of a line.
-#[derive(Drop)]
+#[derive(Clone, Copy)]
 pub(crate) struct Fields {
     count: u8,
     guard: u16,

@@ -9,7 +9,7 @@ use record::Target;
 
 // The files, one place more than usual, how many places of each are lent, the target's number, how many registers are open, and the values of the next
 // two.
-#[derive(Drop)]
+#[derive(Clone, Copy)]
 struct Files {
     words: [u32; 65],
     halves: [u16; 33],
@@ -191,7 +191,7 @@ fn print_executed(e: Executed) {
 }
 
 // What execution answers, and the files then.
-#[derive(Drop)]
+#[derive(Clone, Copy)]
 struct Run {
     answer: Executed,
     words: [u32; 65],

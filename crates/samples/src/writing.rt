@@ -18,7 +18,7 @@ const MARGIN: usize = 16;
 const AREA: usize = 112;
 
 // What writing answers, and what the area of the buffer holds then.
-#[derive(Drop)]
+#[derive(Clone, Copy)]
 struct Attempt {
     answer: Written,
     area: [u8; AREA],

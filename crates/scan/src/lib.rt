@@ -1,5 +1,7 @@
 // What stands at the front of a slice of a line: runs of bytes, names as numbers, registers. Every function takes every slice; a length
 // that it answers counts from the front of the slice that it is lent.
+#![tactic(auto)]
+
 ghost use Rattle.std.specs.Prelude.{◌≡◌, ◌%◌, get_or, drop, take};
 ghost use Rattle.signs.specs.Bytes.{is_blank, is_digit, is_name_byte};
 ghost use Rattle.base.specs.Pack.{radix, code_of};
@@ -46,7 +48,7 @@ pub fn further(place: usize, n: usize) -> usize
 }
 
 // The classes of bytes of which a line has runs.
-#[derive(Drop)]
+#[derive(Clone, Copy)]
 pub enum Class {
     Blank,
     Digit,
@@ -128,7 +130,7 @@ pub fn name_code(s: &[u8], n: usize) -> u64
 }
 
 // A decimal number of 1 to 3 digits with no leading zero, and how many; or the place of the first byte that is wrong.
-#[derive(Drop)]
+#[derive(Clone, Copy)]
 enum Number {
     Got(u16, u8),
     Bad(u8),
@@ -179,7 +181,7 @@ fn digit(b: u8) -> u8
 }
 
 // The front of a register: its file and how many bytes; or the place of the first byte that is wrong.
-#[derive(Drop)]
+#[derive(Clone, Copy)]
 enum Prefix {
     Of(File, u8),
     Not(u8),
@@ -207,7 +209,7 @@ fn prefix_by(a: u8, b: u8, c: u8) -> Prefix
 }
 
 // A register, and how many bytes it took; or the place of the first byte that is wrong.
-#[derive(Drop)]
+#[derive(Clone, Copy)]
 pub enum Register {
     Got(Place, u16),
     Bad(u16),

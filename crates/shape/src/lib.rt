@@ -1,4 +1,6 @@
 // The shape of a line, document 01: what the parts of a line are, and how far a line has the shape. Every function takes every slice.
+#![tactic(auto)]
+
 ghost use Rattle.std.specs.Prelude.{◌≡◌};
 ghost use Rattle.shape.specs.Operand.{operand_scanned, inverted_by, first_of, after_by, second_of, second_by, part_of};
 ghost use Rattle.shape.specs.Head.{no_head, head_of, names_by, turn_named};
@@ -10,7 +12,7 @@ use scan::{Class, Register, byte, further, name_code, read_register, rest, run_l
 use tree::{Guarding, Head, Operands, Parts, Place, Slot, Spot, Tree};
 
 // An operand and how many bytes it took, or the place of the first byte that is wrong.
-#[derive(Drop)]
+#[derive(Clone, Copy)]
 pub enum OperandRead {
     Got(Tree, usize),
     Bad(usize),
@@ -116,7 +118,7 @@ fn no_head() -> Head
 }
 
 // How far a head or a list of operands is read, all but what it holds: `place` bytes, `step` of them in the last turn; `more` while a part must follow, `good` once it is whole.
-#[derive(Drop)]
+#[derive(Clone, Copy)]
 struct Turn {
     more: bool,
     good: bool,
@@ -125,7 +127,7 @@ struct Turn {
 }
 
 // How far a head is read, and its names.
-#[derive(Drop)]
+#[derive(Clone, Copy)]
 struct Names {
     more: bool,
     good: bool,
@@ -230,7 +232,7 @@ fn no_operands(k: usize) -> Operands
 }
 
 // What divides an operand from the next, or ends the list, with the blanks around it and its length; or the place of a wrong byte.
-#[derive(Drop)]
+#[derive(Clone, Copy)]
 pub enum Divider {
     Comma(usize),
     Semicolon(usize),
@@ -260,7 +262,7 @@ fn divider_by(n: usize, b: u8, m: usize) -> Divider
 }
 
 // How far the operands are read, as for a head.
-#[derive(Drop)]
+#[derive(Clone, Copy)]
 struct Listed {
     more: bool,
     good: bool,
@@ -363,7 +365,7 @@ fn divided_by(place: usize, n: usize, d: Divider) -> Turn
 }
 
 // A guard with the blanks behind it, and how many bytes that took; or the place of the first byte that is wrong.
-#[derive(Drop)]
+#[derive(Clone, Copy)]
 pub enum GuardRead {
     Got(Guarding, usize),
     Bad(usize),
@@ -404,7 +406,7 @@ fn guard_by(negated: bool, n: u32, r: Register, w: &[u8]) -> GuardRead
 }
 
 // Whether a line has the shape, how far it was read, and its parts where it has the shape.
-#[derive(Drop)]
+#[derive(Clone, Copy)]
 pub struct Scanned {
     pub good: bool,
     pub place: usize,

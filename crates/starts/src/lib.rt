@@ -1,4 +1,6 @@
 // Where the pieces of a line that has the shape start.
+#![tactic(auto)]
+
 ghost use Rattle.std.specs.Prelude.{◌≡◌};
 ghost use Rattle.starts.specs.Over.{in_file, is_over, over_at};
 ghost use Rattle.starts.specs.Starts.{guard_end, head_at, name_from, operands_at, bar_at, next_by, next_of, next_at, operand_from};
@@ -60,7 +62,7 @@ pub fn operands_start(line: &[u8]) -> usize
 }
 
 // Whether another operand follows the one at the front, and the bytes up to it; or the bytes of the last one.
-#[derive(Drop)]
+#[derive(Clone, Copy)]
 struct Next {
     more: bool,
     taken: usize,

@@ -1,4 +1,6 @@
 // Change request T-09: which records a mode of reading passes. In strict reading none that compares a part of a register with itself.
+#![tactic(auto)]
+
 ghost use Rattle.std.specs.Prelude.{◌≡◌, ◌&&◌};
 ghost use Rattle.rules.specs.Numbers as numbers;
 ghost use Rattle.rules.specs.Strict as paper;
@@ -7,7 +9,7 @@ ghost use Rattle.strict.specs.Origins.{origin_of};
 use record::{Instruction, LaneWidth, Lanes, Mode, Record, Word};
 
 // A part of a register.
-#[derive(Drop)]
+#[derive(Clone, Copy)]
 struct Origin {
     register: u16,
     part: u8,

@@ -1,5 +1,7 @@
 // The pass tally of a wash bay's gate (document 02, T-13): which tags passed, and how often. A read is a tag, a pass number and two words of antenna
 // bytes; a tally of at most 32 tags is lent to each call and brought up to date there.
+#![tactic(auto)]
+
 ghost use Rattle.std.specs.Prelude.{◌≡◌, ◌+◌, ◌≤◌, ◌<◌, take, drop, get_or};
 ghost use Rattle.std.proofs.Math.Option.{none, some};
 ghost use Rattle.tally.specs.Votes.{floor_word, gate, vote_of};
@@ -10,7 +12,7 @@ ghost use Rattle.tally.specs.Places.{place_of, put_at};
 use record::{Cmp6, LaneWidth, Lanes, VideoType, Word};
 
 // A tag that the tally holds, its last pass number, and how many of its passes counted.
-#[derive(Drop)]
+#[derive(Clone, Copy)]
 pub struct Entry {
     pub tag: u32,
     pub last: u32,
@@ -18,13 +20,13 @@ pub struct Entry {
 }
 
 // The first `len` entries are held, in the order in which their tags came. Not every value of this type is a tally: a call refuses the others.
-#[derive(Drop)]
+#[derive(Clone, Copy)]
 pub struct Tally {
     pub len: usize,
     pub entries: [Entry; TAGS],
 }
 
-#[derive(Drop)]
+#[derive(Clone, Copy)]
 pub struct Read {
     pub tag: u32,
     pub pass: u32,
@@ -33,7 +35,7 @@ pub struct Read {
 }
 
 // What a call answers: the count that the tag stands at now; the votes of a weak read; the number of a refusal.
-#[derive(Drop)]
+#[derive(Clone, Copy)]
 pub enum Passed {
     Counted(u8),
     Duplicate,
@@ -42,7 +44,7 @@ pub enum Passed {
 }
 
 // The answer, and the tally brought up to date.
-#[derive(Drop)]
+#[derive(Clone, Copy)]
 pub struct Updated {
     pub answer: Passed,
     pub tally: Tally,

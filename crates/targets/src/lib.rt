@@ -1,4 +1,6 @@
 // Change request T-07: the target of a name, which records a target allows, and when it flushes.
+#![tactic(auto)]
+
 ghost use Rattle.std.specs.Prelude.{◌≡◌};
 ghost use Rattle.rules.specs.Targets as paper;
 ghost use Rattle.targets.specs.Named.{named_of};
@@ -6,7 +8,7 @@ ghost use Rattle.targets.specs.Named.{named_of};
 use record::{Choice, Comparison, DataType, Instruction, Record, SlctType, Target};
 
 // The target of that name, or none has it.
-#[derive(Drop)]
+#[derive(Clone, Copy)]
 pub enum Named {
     Is(Target),
     Unknown,

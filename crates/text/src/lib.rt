@@ -1,4 +1,6 @@
 // Texts put into a lent buffer from a place on. What has no room is left out, so that no text asks for any. And whether two texts are the same.
+#![tactic(auto)]
+
 ghost use Rattle.std.specs.Prelude.{◌≡◌, [], ◌∷◌, ◌+◌, ◌-◌, ◌%◌, ◌≤◌, ◌<◌, length};
 ghost use Rattle.std.proofs.Math.Seq.{paste};
 ghost use Rattle.text.specs.Buffer.{buffer, Puts};

@@ -1,12 +1,14 @@
 // Where a line goes wrong: the first byte with which it begins as no line of the right shape does. The bytes are read one by one; what is
 // known of them is what a line may go on with.
+#![tactic(auto)]
+
 ghost use Rattle.std.specs.Prelude.{◌≡◌, cond};
 ghost use Rattle.viable.specs.States.{named, ends, follow, digits, register, in_head, in_list, step, is_wrong, shape_place_of};
 
 use scan::{is_blank, is_digit, is_name_byte};
 
 // What a register is: a guard's, the first of an operand, or one that ends its operand.
-#[derive(Drop)]
+#[derive(Clone, Copy)]
 enum Role {
     Guard,
     First,
@@ -14,7 +16,7 @@ enum Role {
 }
 
 // How much of a register is read: nothing, `%`, `%r`, its file, one digit, two, all.
-#[derive(Drop)]
+#[derive(Clone, Copy)]
 enum Read {
     Nothing,
     Sign,
@@ -26,7 +28,7 @@ enum Read {
 }
 
 // What is read so far. Of an operand that has ended, blanks behind it among them, this is `Register(Last, Whole)`.
-#[derive(Drop)]
+#[derive(Clone, Copy)]
 enum State {
     // What no line begins with.
     Wrong,

@@ -1,5 +1,7 @@
 // Scalar video, and the forms with 2 and 4 lanes, as functions of the numbers that the registers hold.
 // Inside, an exact number z is kept as z + 2^36, so that none is below zero.
+#![tactic(auto)]
+
 ghost use Rattle.std.specs.Prelude.{◌≡◌, cond, ◌+◌, ◌%◌, ◌^◌, ◌<◌, ◌≤◌, pos, ◌+ℤ◌, ◌-ℤ◌, get_or};
 ghost use Rattle.signs.specs.Lists.{tab};
 ghost use Rattle.rules.specs.Numbers.{word_size, lane_size, lanes, part_at, exact_of, is_signed, low_of, min_z, max_z, bit, holds_z};

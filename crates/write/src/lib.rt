@@ -1,5 +1,7 @@
 // Writes a record as its standard line. Its pieces are chosen as numbers, each the bytes of a short text (crate names); then the line is put
 // into a local buffer, and copied out once.
+#![tactic(auto)]
+
 ghost use Rattle.std.specs.Prelude.{◌≡◌, ◌++◌, ◌+◌, ◌*◌, ◌^◌, ◌≤◌, ◌<◌, length};
 ghost use Rattle.base.specs.Pack.{radix, spelled, NumberSpells};
 ghost use Rattle.record.specs.Registers.{reg, operand_place, r, p};
@@ -23,7 +25,7 @@ use record::{
 };
 
 // The length of the line, or document 01's number of the refusal.
-#[derive(Drop)]
+#[derive(Clone, Copy)]
 pub enum Written {
     Length(usize),
     Refused(u8),
@@ -287,7 +289,7 @@ fn slct_head(ctype: SlctType, s: Choice, c: Word) -> [u64; 6]
 
 // ---- operands, each as two texts: up to its register, and what stands behind it
 
-#[derive(Drop)]
+#[derive(Clone, Copy)]
 struct Piece {
     front: u64,
     back: u64,
@@ -568,7 +570,7 @@ fn operand_texts(i: Instruction) -> [u64; 8]
     }
 }
 
-#[derive(Drop)]
+#[derive(Clone, Copy)]
 struct Texts {
     guard: [u64; 2],
     head: [u64; 6],

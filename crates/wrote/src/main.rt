@@ -1,5 +1,7 @@
 // Who wrote this last: reads standard input, a listing, and prints what crate `lastline` makes of it and of the register that is the one argument. With the
 // argument `distances` it prints the answers of crate `last` as they are, for `%r0` to `%r64`.
+#![tactic(auto)]
+
 ghost use Rattle.std.specs.Prelude.{◌≤◌, length};
 ghost use Rattle.lastline.specs.Steps.{answer_room};
 
@@ -66,7 +68,7 @@ fn say_distances(listing: &[u8]) {
 }
 
 // What the words behind the program ask for.
-#[derive(Drop)]
+#[derive(Clone, Copy)]
 enum Question {
     Of(Word),
     Distances,
