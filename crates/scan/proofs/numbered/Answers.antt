@@ -4,7 +4,7 @@ use Rattle.scan.proofs.numbered.Goals as goal
 pub returns-in-Got : goal.returns-in-Got
 unfolding register_from
 returns-in-Got c = simp (
-      c.IsPlace-in.ensures,
+      c.place_in.ensures,
       c.in-Got.is,
     )
 
