@@ -1,25 +1,20 @@
-use Rattle.std.proofs.Common.{arith, eq-eqb, ne_eqb, sym, ◌%◌, ◌-◌, ◌/◌, ◌∙◌, ◌≡◌}
+use Rattle.std.proofs.Common.{ℕ, arith, eq-eqb, ne_eqb, sym, ◌%◌, ◌-◌, ◌/◌, ◌∙◌, ◌≡◌}
 use Rattle.base.specs.Pack.{radix, pack}
 use Rattle.rules.specs.Numbers.{lanes}
 use Rattle.rules.specs.Names.{lane_letter}
 use Rattle.signs.specs.Digits.{zero_byte}
-use Rattle.masks.specs.Masks.{falling, mask_of}
+use Rattle.record.specs.declared.LaneWidth.{LaneWidth}
+use Rattle.record.specs.declared.Mask.{Mask}
+use Rattle.masks.specs.Masks.{falling, mask_of, no_lane}
 use Rattle.masks.specs.MaskLaws.{falls, stops, ends}
-use Rattle.masks.proofs.mask_of.Lts as lts
-use Rattle.masks.proofs.digit_limit.Reads as digit-limit-reads
-use Rattle.masks.proofs.letter.Reads as letter-reads
 use Rattle.masks.proofs.mask_of.Goals as goal
 
-abbrev At-loop : Type 0
-At-loop = lts.At-loop (letter-reads.Asked, letter-reads.Learnt, digit-limit-reads.Asked, digit-limit-reads.Learnt) reads.Pre reads.Post invariant-loop decreases-loop
-
-whole : (c : At-loop) → falling (c.loop.last - zero_byte) c.loop.mask c.loop.rest ≡ mask_of c.before.before.before.before.before.args.w c.before.before.before.before.before.args.x
+-- the digits that are left, from the last one and the lanes so far, give the mask of the whole name
+whole : (w : LaneWidth) (x limit last rest : ℕ) (mask : Mask) → x % radix ≡ pack (lane_letter w) → (x / radix ≡ 0 → ⊥) → lanes w ≡ limit - zero_byte
+    → falling (last - zero_byte) mask rest ≡ falling (limit - zero_byte) no_lane (x / radix) → falling (last - zero_byte) mask rest ≡ mask_of w x
 unfolding mask_of
-whole c =
-    let a = c.before.before.before.before.before.args in
-    let n : lanes a.w ≡ c.before.digit-limit.result - zero_byte = omega (arith, c.before.digit-limit.ensures) in
-    let l : a.x % radix ≡ pack (lane_letter a.w) = omega (arith, c.before.before.before.before.letter.ensures.0) in
-    rw (eq-eqb (a.x % radix) (pack (lane_letter a.w)) l, ne_eqb (a.x / radix) 0 (λ e. omega arith), n) c.loop.invariant
+whole w x limit last rest mask l n e i =
+    rw (eq-eqb (x % radix) (pack (lane_letter w)) l, ne_eqb (x / radix) 0 n, e) i
 
 pub returns-then-x-letter : goal.returns-then-x-letter
 unfolding mask_of
@@ -38,12 +33,12 @@ returns-then-rest-eq0 c =
 pub returns-then-digit-lt48 : goal.returns-then-digit-lt48
 returns-then-digit-lt48 c =
     let s = c.loop-rest in
-    sym (stops (s.last - zero_byte) s.mask s.rest (omega arith) (λ g. omega arith)) ∙ whole c.before.before
+    sym (stops (s.last - zero_byte) s.mask s.rest (omega arith) (λ g. omega arith)) ∙ whole c.args.w c.args.x c.digit_limit-last.result s.last s.rest s.mask (omega (arith, c.letter.ensures.0)) (λ e. omega arith) (omega (arith, c.digit_limit-last.ensures)) s.invariant
 
 pub returns-then-last-digit : goal.returns-then-last-digit
 returns-then-last-digit c =
     let s = c.loop-rest in
-    sym (stops (s.last - zero_byte) s.mask s.rest (omega arith) (λ g. omega arith)) ∙ whole c.before.before.before
+    sym (stops (s.last - zero_byte) s.mask s.rest (omega arith) (λ g. omega arith)) ∙ whole c.args.w c.args.x c.digit_limit-last.result s.last s.rest s.mask (omega (arith, c.letter.ensures.0)) (λ e. omega arith) (omega (arith, c.digit_limit-last.ensures)) s.invariant
 
 pub loop-rest-preserved : goal.loop-rest-preserved
 loop-rest-preserved c =
@@ -53,4 +48,4 @@ loop-rest-preserved c =
 pub returns : goal.returns
 returns c =
     let s = c.loop-rest in
-    sym (ends (s.last - zero_byte) s.mask) ∙ rw c.loop-rest-test.false at (whole c.before)
+    sym (ends (s.last - zero_byte) s.mask) ∙ rw c.loop-rest-test.false at (whole c.args.w c.args.x c.digit_limit-last.result s.last s.rest s.mask (omega (arith, c.letter.ensures.0)) (λ e. omega arith) (omega (arith, c.digit_limit-last.ensures)) s.invariant)

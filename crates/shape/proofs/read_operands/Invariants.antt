@@ -4,7 +4,7 @@ use Rattle.shape.specs.Operands.{operands_scanned, operand_turns, listed_by}
 use Rattle.shape.proofs.read_operands.Given as goal
 
 abbrev pub invariant-loop-turn : goal.invariant-loop-turn
-invariant-loop-turn l = (l._turn ≤ most_turns) × (operands_scanned l.s ≡ operand_turns (most_turns - l._turn) l.w (listed_by l.t (record { l.n = l.n; l.at = l.at })))
+invariant-loop-turn l = (l._turn ≤ most_turns) × (operands_scanned l.s ≡ operand_turns (most_turns - l._turn) l.w (listed_by l.t (record { n = l.n; at = l.at })))
 
 abbrev pub decreases-loop-turn : goal.decreases-loop-turn
 decreases-loop-turn l = most_turns - l._turn

@@ -1,0 +1,42 @@
+-- No two outcomes satisfy a contract as it stands in src/lib.rt.
+use mathlib.Core.Path.{ap, ◌≡◌}
+use contract.Lifetimes.{Lfts}
+use borrow.Fn.Kinds.{Dens, ended_of}
+use denote.Triple.Clauses.{AtExit}
+use Rattle.base.specs.Promise.{one_outcome}
+use Rattle.rules.specs.Executing.{Outcome}
+use Rattle.execute.specs.Answers.{answers_one}
+use Rattle.execute.specs.declared.Executed.{Executed}
+use Rattle.read.specs.Answering.{answers_unique}
+use Rattle.read.specs.Paper.{answers_one}
+use Rattle.read.specs.declared.Reading.{Reading}
+use Rattle.rules.specs.Writing.{Outcome}
+use Rattle.write.specs.Answers.{answers_one}
+use Rattle.write.specs.declared.Written.{Written}
+use Rattle.bench.proofs.execute.Kinds as execute-kinds
+use Rattle.bench.proofs.execute.Reads as execute
+use Rattle.bench.proofs.read.Kinds as read-kinds
+use Rattle.bench.proofs.read.Reads as read
+use Rattle.bench.proofs.write.Kinds as write-kinds
+use Rattle.bench.proofs.write.Reads as write
+
+pub execute_one_outcome :
+    (κs : Lfts 4) (a : Dens κs execute-kinds.ps) (x y : Executed) (s t : AtExit (ended_of 4 execute-kinds.ps execute-kinds.r) κs)
+    → execute.Post κs a x s → execute.Post κs a y t
+    → (x ≡ y) × (s.1.1.0.now ≡ t.1.1.0.now) × (s.1.1.1.0.now ≡ t.1.1.1.0.now) × (s.1.1.1.1.0.now ≡ t.1.1.1.1.0.now) × (s.1.1.1.1.1.0.now ≡ t.1.1.1.1.1.0.now)
+execute_one_outcome κs a x y s t p q =
+    let z = one_outcome p q in
+    (answers_one x y (ap (λ (o : Outcome). o.answer) z), ap (λ (o : Outcome). o.files.words) z, ap (λ (o : Outcome). o.files.halves) z, ap (λ (o : Outcome). o.files.doubles) z, ap (λ (o : Outcome). o.files.preds) z)
+
+pub read_one_outcome :
+    (κs : Lfts 1) (a : Dens κs read-kinds.ps) (x y : Reading) (s t : AtExit (ended_of 1 read-kinds.ps read-kinds.r) κs)
+    → read.Post κs a x s → read.Post κs a y t → x ≡ y
+read_one_outcome κs a x y s t p q = answers_one x y (answers_unique _ _ _ _ _ p q)
+
+pub write_one_outcome :
+    (κs : Lfts 1) (a : Dens κs write-kinds.ps) (x y : Written) (s t : AtExit (ended_of 1 write-kinds.ps write-kinds.r) κs)
+    → write.Post κs a x s → write.Post κs a y t
+    → (x ≡ y) × (s.1.0.now ≡ t.1.0.now)
+write_one_outcome κs a x y s t p q =
+    let z = one_outcome p q in
+    (answers_one x y (ap (λ (o : Outcome). o.answer) z), ap (λ (o : Outcome). o.buffer) z)
