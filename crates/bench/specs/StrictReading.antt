@@ -176,10 +176,12 @@ order_before = 1 ∷ 2 ∷ 3 ∷ 4 ∷ 5 ∷ 6 ∷ 7 ∷ 12 ∷ []
 
 module _ (target : Target) (l : List ℕ) where
   longer : (n : ℕ) (ns : List ℕ) → FirstOf target Ordinary l n ns → FirstOf target Ordinary l n (ns ++ (15 ∷ []))
+  longer n [] x' = elim x' [ ]
   longer n (k ∷ ns) (this a) = this a
   longer n (k ∷ ns) (next z f) = next z (longer n ns f)
 
   shorter : (n : ℕ) (ns : List ℕ) → FirstOf target Ordinary l n (ns ++ (15 ∷ [])) → FirstOf target Ordinary l n ns
+  shorter n [] (next z f) = elim f [ ]
   shorter n [] (this a) = absurd (ordinary_without_15 target l a)
   shorter n (k ∷ ns) (this a) = this a
   shorter n (k ∷ ns) (next z f) = next z (shorter n ns f)
@@ -200,6 +202,7 @@ ordinary_refused target l n (refuses f i) = (first_before target l n f, go i)
     go : Listed n placeless → Listed n placeless_before
     go (here e) = here e
     go (later (here e)) = later (here e)
+    go (later (later (later x10))) = elim x10 [ ]
     go (later (later (here e))) = absurd (ordinary_without_15 target l (subst (Applies target Ordinary l) e (answering.first_applies target Ordinary l n reading_order f)))
 
 pub refused_ordinary : (target : Target) (l : List ℕ) (n : ℕ) → FirstOf target Ordinary l n order_before → Listed n placeless_before → Answers target Ordinary l (refused n)
@@ -207,6 +210,7 @@ refused_ordinary target l n f i = refuses (before_first target l n f) (go i)
   where
     go : Listed n placeless_before → Listed n placeless
     go (here e) = here e
+    go (later (later x6)) = elim x6 [ ]
     go (later (here e)) = later (here e)
 
 pub ordinary_refused_at : (target : Target) (l : List ℕ) (n q : ℕ) → Answers target Ordinary l (refused_at n q) → FirstOf target Ordinary l n order_before × Placed l n q

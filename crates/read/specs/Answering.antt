@@ -163,6 +163,7 @@ between l n p (at_second t s q e) = (omega arith, omega arith)
 pub placeless_unplaced : (l : List ℕ) (n p : ℕ) → Listed n placeless → Placed l n p → ⊥
 placeless_unplaced l n p (here e) x = let k = between l n p x in omega arith
 placeless_unplaced l n p (later (here e)) x = let k = between l n p x in omega arith
+placeless_unplaced l n p (later (later (later x22))) x = elim x22 [ ]
 placeless_unplaced l n p (later (later (here e))) x = let k = between l n p x in omega arith
 
 -- a line that gets another is not too long
@@ -208,6 +209,7 @@ answers target mode l = answers_by target mode l (verdict_of target mode l) refl
 
 -- one number is the first
 first_one : (target : Target) (mode : Mode) (l : List ℕ) (n k : ℕ) (ns : List ℕ) → FirstOf target mode l n ns → FirstOf target mode l k ns → n ≡ k
+first_one target mode l n k [] x'' _ = elim x'' [ ]
 first_one target mode l n k (x ∷ ns) (this a) (this b) = refl
 first_one target mode l n k (x ∷ ns) (this a) (next b q) = absurd (b a)
 first_one target mode l n k (x ∷ ns) (next a p) (this b) = absurd (a b)
@@ -215,6 +217,7 @@ first_one target mode l n k (x ∷ ns) (next a p) (next b q) = first_one target 
 
 -- the first of a list applies
 pub first_applies : (target : Target) (mode : Mode) (l : List ℕ) (n : ℕ) (ns : List ℕ) → FirstOf target mode l n ns → Applies target mode l n
+first_applies target mode l n [] x' = elim x' [ ]
 first_applies target mode l n (x ∷ ns) (this a) = a
 first_applies target mode l n (x ∷ ns) (next a p) = first_applies target mode l n ns p
 
