@@ -47,6 +47,7 @@ has_listed n (q ∷ qs) e =
     either (has_word n qs) (is_word n q) e (Listed (word n) (q ∷ qs)) (λ h. further (has_listed n qs h)) (λ h. here (word_is n q h))
 
 listed_has : (n : ℕ) (qs : List Place) → Listed (word n) qs → has_word n qs ≡ true
+listed_has n [] x' = elim x' [ ]
 listed_has n (q ∷ qs) (here e) = rw (← e, eq-eqb n n refl) (or-true (has_word n qs))
 listed_has n (q ∷ qs) (further h) = rw (listed_has n qs h)
 
