@@ -27,7 +27,7 @@ use Rattle.rules.specs.Executing.{Admitted}
 use Rattle.rules.specs.Targets.{allows, Allowed}
 use Rattle.rules.specs.Strict.{origin, lanes_against_itself, against_itself, passes}
 use Rattle.rules.specs.StandardLine.{standard}
-use Rattle.rules.specs.Reading.{Relates, Applies, too_long, shapeless, unknown, rowless, unfit, outside, equal, too_old, against_itself_lem, reading_order, FirstOf, this, next, Placed, placeless, Answer, read, refused, refused_at, Answers, accepts, refuses, refuses_at}
+use Rattle.rules.specs.Reading.{Relates, Applies, too_long, shapeless, unknown, rowless, unfit, outside, equal, too_old, against_self, reading_order, FirstOf, this, next, Placed, placeless, Answer, read, refused, refused_at, Answers, accepts, refuses, refuses_at}
 use Rattle.laws.specs.PlaceLaws as places
 use Rattle.laws.specs.PlaceLaws.{off}
 use Rattle.laws.specs.LaneLaws.{digit_named}
@@ -169,7 +169,7 @@ ordinary_accepted target l x (accepts m q h) = (q, h.allowed)
 -- 15 does not apply to any line, so that the order of refusals is the one before, 1 to 7 and 12
 pub ordinary_without_15 : (target : Target) (l : List ℕ) → Applies target Ordinary l 15 → ⊥
 unfolding passes
-ordinary_without_15 target l (against_itself_lem x q e) = off e
+ordinary_without_15 target l (against_self x q e) = off e
 
 abbrev pub order_before : List ℕ
 order_before = 1 ∷ 2 ∷ 3 ∷ 4 ∷ 5 ∷ 6 ∷ 7 ∷ 12 ∷ []
@@ -229,7 +229,7 @@ applies_alike target mode way l n z (unfit t s i w h) = unfit t s i w h
 applies_alike target mode way l n z (outside t s k q a b) = outside t s k q a b
 applies_alike target mode way l n z (equal t s k a) = equal t s k a
 applies_alike target mode way l n z (too_old x q a) = too_old x q a
-applies_alike target mode way l n z (against_itself_lem x q e) = absurd (z refl)
+applies_alike target mode way l n z (against_self x q e) = absurd (z refl)
 
 -- ==== 15 and the targets: only sm_30 allows a line that is against itself, so each older target gives it 12
 

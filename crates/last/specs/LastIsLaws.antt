@@ -20,7 +20,7 @@ use Rattle.rules.specs.Reading.{Answers, read, refused, refused_at}
 use Rattle.rules.specs.Reading as reading
 use Rattle.lines.specs.Lines.{lines_of, listing_limit, WholeLines, Stands}
 use Rattle.lines.specs.LineLaws.{widths, whole_lines, whole_widths, whole_append, standing, stands_sizes, stands_from, stands_behind}
-use Rattle.last.specs.Last.{is_word, has_word, has_destination, FullReading, later, last_in, Answer, distance, refused_by_lem, told, last_of, ByFullReading}
+use Rattle.last.specs.Last.{is_word, has_word, has_destination, FullReading, later, last_in, Answer, distance, refused_by, told, last_of, ByFullReading}
 use Rattle.last.specs.Back.{own_answer, own_has}
 use Rattle.last.specs.BackLaws.{last_append}
 use Rattle.last.specs.LastIs.{Has, NoneHas, LastIs, too_long, no_register, nowhere, at_distance}
@@ -125,7 +125,7 @@ module _ (answer : List ℕ → reading.Answer) (full : FullReading answer) wher
           subst (λ (i : ℕ). LastIs s n (distance i)) d (at_distance h k (standing xs s l ys e).1 m w)
 
       go : (t u : Bool) → ltb listing_limit (length s) ≡ t → leb word_count n ≡ u → {x : Option ℕ} → Sought n (length s) 0 (lines_of s) x
-          → LastIs s n (cond t (refused_by_lem 22) (cond u (refused_by_lem 6) (told x)))
+          → LastIs s n (cond t (refused_by 22) (cond u (refused_by 6) (told x)))
       go true u i j q = too_long (ltb-true listing_limit (length s) i)
       go false true i j q = no_register (ltb-false listing_limit (length s) i) (leb-true word_count n j)
       go false false i j q = found (ltb-false listing_limit (length s) i) (leb-false word_count n j) q
