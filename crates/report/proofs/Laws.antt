@@ -6,11 +6,11 @@ use Rattle.record.specs.Refusals.{is_legal}
 use Rattle.record.specs.declared.Record.{Record}
 use Rattle.record.specs.declared.Target.{Target}
 use Rattle.record.specs.declared.Mode.{Mode}
-use Rattle.record.specs.Registers.{Files, at}
+use Rattle.record.specs.Registers.{Files}
 use Rattle.rules.specs.StandardLine.{standard}
 use Rattle.laws.specs.LineLengths.{standard_fits}
 use Rattle.rules.specs.Writing.{Answer, Outcome, written, refused, outcome, writing}
-use Rattle.text.specs.Buffer.{Buffer, buffer, Puts, ◌then◌}
+use Rattle.text.specs.Buffer.{Buffer, Puts, ◌then◌}
 use Rattle.signs.specs.Digits.{decimal}
 use Rattle.report.specs.Listing.{printed_line}
 use Rattle.signs.specs.Bytes.{line_feed}

@@ -9,8 +9,8 @@ returns-then-at-eq0 c = back_front c.args.s.now c.args.gone (sym c.left-at.ensur
 pub returns : goal.returns
 unfolding line_back
 returns c = simp (
-      c.left.ensures,
-      c.line_start.ensures,
-      c.line_end-end.ensures,
-      c.left-at.ensures,
-    )
+  c.left.ensures,
+  c.line_start.ensures,
+  c.line_end-end.ensures,
+  c.left-at.ensures,
+)
