@@ -67,3 +67,8 @@ pub run_len_one_outcome :
     (κs : Lfts 1) (a : Dens κs run-len-kinds.ps) (x y : ℕ) (s t : AtExit (ended_of 1 run-len-kinds.ps run-len-kinds.r) κs)
     → run-len.Post κs a x s → run-len.Post κs a y t → x ≡ y
 run_len_one_outcome κs a x y s t p q = one_outcome p q
+
+pub byte_one_outcome :
+    (κs : Lfts 1) (a : Dens κs byte-kinds.ps) (x y : ℕ) (s t : AtExit (ended_of 1 byte-kinds.ps byte-kinds.r) κs)
+    → byte.Post κs a x s → byte.Post κs a y t → x ≡ y
+byte_one_outcome κs a x y s t p q = one_outcome p q
