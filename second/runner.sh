@@ -1,10 +1,12 @@
-# Sourced: `run PROGRAM` runs a compiled program of the bench, an x86-64 one, as rt itself does: by the kit's loader and, on another processor, its emulator.
-command -v rt >/dev/null 2>&1 || { echo "the command 'rt' of the Rattle kit is not on the PATH" >&2; exit 2; }
-kit=$(dirname "$(dirname "$(rt doc)")")
-tools=$kit/on/$(uname -m)/toolchain
-loader=$tools/lib/ld-linux-x86-64.so.2
-emulator=$tools/bin/qemu-x86_64
-[ -x "$emulator" ] || emulator=''
-[ -r "$loader" ] || { echo "the kit at $kit has no loader for this machine, $(uname -m)" >&2; exit 2; }
+# Sourced: `run PROGRAM` runs a compiled program of the bench, for x86-64, as rt does: by the machine's loader.
+loader=/lib64/ld-linux-x86-64.so.2
+[ -r "$loader" ] || { echo "this machine has no $loader, by which the kit's programs start" >&2; exit 2; }
 
-run() { ${emulator:+"$emulator"} "$loader" --library-path "$tools/lib" "$@"; }
+run() { "$@"; }
+
+# built NAME: ends the script where that program is not there
+built() {
+    [ -x "crates/$1/out/$1" ] && return
+    echo "crates/$1/out/$1 is missing: run 'rt ci' first, or 'rt run' in crates/$1"
+    exit 1
+}

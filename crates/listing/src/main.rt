@@ -8,23 +8,24 @@ ghost use Rattle.report.specs.Chunks.{line_room};
 ghost use Rattle.report.specs.OutputLaws.{Told};
 
 use changes::Printed;
-use libc::{STDERR_FILENO, STDIN_FILENO, STDOUT_FILENO};
 use record::{Mode, Target};
+use std::rt::Env;
 use targets::Named;
 
 // One byte more than a listing may have: a longer input is seen to be too long.
 const INPUT: usize = 65537;
 
 // Whether the system took all of the first n bytes.
-fn say_first(s: &[u8], n: usize) -> bool {
+fn say_first(rt: &impl Print, s: &[u8], n: usize) -> bool {
     if s.len() < n {
         return false;
     }
-    io::write_all(STDOUT_FILENO, &s[0..n])
+    streams::write_all(rt, &s[0..n])
 }
 
 // Calls `some_lines` until the listing ends, and prints what each call has put into the buffer; false, and no more is printed, where the system does not take it.
 fn say_lines(
+    rt: &impl Print,
     target: Target,
     mode: Mode,
     listing: &[u8],
@@ -43,7 +44,7 @@ fn say_lines(
         let p = report::some_lines(
             target, mode, listing, at, number, words, halves, doubles, preds, out,
         );
-        if !say_first(out, p.len) {
+        if !say_first(rt, out, p.len) {
             return false;
         }
         at = p.at;
@@ -52,20 +53,28 @@ fn say_lines(
     true
 }
 
-fn say_registers(words: &[u32], halves: &[u16], doubles: &[u64], preds: &[u8], out: &mut [u8]) {
+fn say_registers(
+    rt: &impl Print,
+    words: &[u32],
+    halves: &[u16],
+    doubles: &[u64],
+    preds: &[u8],
+    out: &mut [u8],
+) {
     // The caller's buffer is longer than all registers' texts, so there is room.
     if let Printed::Length(n) = changes::registers(words, halves, doubles, preds, out) {
-        say_first(out, n);
+        say_first(rt, out, n);
     }
 }
 
-fn say_listing(target: Target, mode: Mode, listing: &[u8]) {
+fn say_listing(rt: &impl Print, target: Target, mode: Mode, listing: &[u8]) {
     let mut words = changes::start_words();
     let mut halves = changes::start_halves();
     let mut doubles = changes::start_doubles();
     let mut preds = changes::start_preds();
     let mut out = [0u8; 65536];
     if say_lines(
+        rt,
         target,
         mode,
         listing,
@@ -75,7 +84,7 @@ fn say_listing(target: Target, mode: Mode, listing: &[u8]) {
         &mut preds,
         &mut out,
     ) {
-        say_registers(&words, &halves, &doubles, &preds, &mut out);
+        say_registers(rt, &words, &halves, &doubles, &preds, &mut out);
     }
 }
 
@@ -87,46 +96,45 @@ enum Asked {
 }
 
 // The listing uses sm_30, unless another is given.
-fn target_given() -> Named {
-    if os::arg_count() < 2 {
+fn target_given(rt: &impl Env) -> Named {
+    if !streams::has_arg(rt, 1) {
         return Named::Is(Target::Sm30);
     }
     // Of a longer word `arg` answers no byte, which is no name either.
     let mut name = [0u8; 5];
-    let n = os::arg(1, &mut name);
+    let n = streams::arg(rt, 1, &mut name);
     targets::target_of(&name[..n])
 }
 
 // The listing is ordinary, unless `strict` is given.
-fn asked_at(target: Target) -> Asked {
-    if os::arg_count() < 3 {
+fn asked_at(rt: &impl Env, target: Target) -> Asked {
+    if !streams::has_arg(rt, 2) {
         return Asked::For(target, Mode::Ordinary);
     }
     // As many bytes as `strict` has; of a longer word `arg` answers none.
     let mut word = [0u8; 6];
-    let n = os::arg(2, &mut word);
-    if (os::arg_count() == 3) & text::same(&word[..n], b"strict") {
+    let n = streams::arg(rt, 2, &mut word);
+    if !streams::has_arg(rt, 3) & text::same(&word[..n], b"strict") {
         return Asked::For(target, Mode::Strict);
     }
     Asked::Wrong
 }
 
-fn arguments() -> Asked {
-    let Named::Is(target) = target_given() else {
+fn arguments(rt: &impl Env) -> Asked {
+    let Named::Is(target) = target_given(rt) else {
         return Asked::Wrong;
     };
-    asked_at(target)
+    asked_at(rt, target)
 }
 
-fn main() {
-    let Asked::For(target, mode) = arguments() else {
-        io::write_all(
-            STDERR_FILENO,
-            b"listing: the target is sm_10, sm_13, sm_20 or sm_30, one of them; behind it may stand `strict`, and nothing else\n",
+fn main(rt: HostRuntime) {
+    let Asked::For(target, mode) = arguments(&rt) else {
+        let _ = eprintln!(rt;
+            "listing: the target is sm_10, sm_13, sm_20 or sm_30, one of them; behind it may stand `strict`, and nothing else"
         );
         return;
     };
     let mut input = [0u8; INPUT];
-    let n = io::read_full(STDIN_FILENO, &mut input);
-    say_listing(target, mode, &input[..n]);
+    let n = streams::read_full(&mut rt.reader(), &mut input);
+    say_listing(&rt, target, mode, &input[..n]);
 }

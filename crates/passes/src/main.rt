@@ -6,8 +6,8 @@ ghost use Rattle.std.specs.Prelude.{◌≤◌, ◌≡◌, true, length};
 ghost use Rattle.passlog.specs.Steps.{line_room, end_room};
 ghost use Rattle.passlog.specs.OutputLaws.{Told};
 
-use libc::{STDERR_FILENO, STDIN_FILENO, STDOUT_FILENO};
 use passlog::{Ended, Floor};
+use std::rt::Env;
 use tally::Tally;
 
 // One byte more than the input may have: a longer one is seen to be too long.
@@ -24,15 +24,15 @@ struct Said {
 }
 
 // Whether the system took all of the first n bytes.
-fn say_first(s: &[u8], n: usize) -> bool {
+fn say_first(rt: &impl Print, s: &[u8], n: usize) -> bool {
     if s.len() < n {
         return false;
     }
-    io::write_all(STDOUT_FILENO, &s[0..n])
+    streams::write_all(rt, &s[0..n])
 }
 
 // Calls `log_line` until the input ends, and prints what each call has put into the buffer; no more, where the system does not take it.
-fn say_lines(floor: u8, input: &[u8], out: &mut [u8]) -> Said
+fn say_lines(rt: &impl Print, floor: u8, input: &[u8], out: &mut [u8]) -> Said
     requires { line_room ≤ length out.old }
     ensures { result.all ≡ true → Told floor input.now result.tally }
 {
@@ -41,7 +41,7 @@ fn say_lines(floor: u8, input: &[u8], out: &mut [u8]) -> Said
     let mut t = tally::empty();
     while at < input.len() {
         let p = passlog::log_line(floor, input, at, number, t, out);
-        if !say_first(out, p.len) {
+        if !say_first(rt, out, p.len) {
             return Said {
                 all: false,
                 tally: t,
@@ -58,42 +58,41 @@ fn say_lines(floor: u8, input: &[u8], out: &mut [u8]) -> Said
 }
 
 // After all lines there is a text: what the calls leave is a tally (`told-ends`), and the buffer has room.
-fn say_end(t: Tally, out: &mut [u8])
+fn say_end(rt: &impl Print, t: Tally, out: &mut [u8])
     requires { end_room ≤ length out.old }
 {
     if let Ended::Length(n) = passlog::end(t, out) {
-        say_first(out, n);
+        say_first(rt, out, n);
     }
 }
 
-fn say_log(floor: u8, input: &[u8]) {
+fn say_log(rt: &impl Print, floor: u8, input: &[u8]) {
     let mut out = [0u8; OUTPUT];
-    let said = say_lines(floor, input, &mut out);
+    let said = say_lines(rt, floor, input, &mut out);
     if said.all {
         let t = said.tally;
-        say_end(t, &mut out);
+        say_end(rt, t, &mut out);
     }
 }
 
-fn floor_given() -> Floor {
-    if os::arg_count() != 2 {
+fn floor_given(rt: &impl Env) -> Floor {
+    if !streams::has_arg(rt, 1) | streams::has_arg(rt, 2) {
         return Floor::Other;
     }
     // As many bytes as a floor has; of a longer word `arg` answers none.
     let mut word = [0u8; 2];
-    let n = os::arg(1, &mut word);
+    let n = streams::arg(rt, 1, &mut word);
     passlog::floor_of(&word[..n])
 }
 
-fn main() {
-    let Floor::Is(floor) = floor_given() else {
-        io::write_all(
-            STDERR_FILENO,
-            b"passes: the one word behind it is the floor, two hexadecimal digits, capitals\n",
+fn main(rt: HostRuntime) {
+    let Floor::Is(floor) = floor_given(&rt) else {
+        let _ = eprintln!(rt;
+            "passes: the one word behind it is the floor, two hexadecimal digits, capitals"
         );
         return;
     };
     let mut input = [0u8; INPUT];
-    let n = io::read_full(STDIN_FILENO, &mut input);
-    say_log(floor, &input[..n]);
+    let n = streams::read_full(&mut rt.reader(), &mut input);
+    say_log(&rt, floor, &input[..n]);
 }

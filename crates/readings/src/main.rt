@@ -5,7 +5,6 @@
 
 ghost use Rattle.std.specs.Prelude.{◌≤◌, length};
 
-use libc::{STDIN_FILENO, STDOUT_FILENO};
 use read::Reading;
 use record::{Mode, Record, Target};
 use targets::Named;
@@ -25,8 +24,8 @@ const NAME: usize = 5;
 // `strict` and its space have so many.
 const STRICT: usize = 7;
 
-fn say(s: &[u8]) {
-    io::write_all(STDOUT_FILENO, s);
+fn say(rt: &impl Print, s: &[u8]) {
+    streams::write_all(rt, s);
 }
 
 // ---- decoding
@@ -126,22 +125,29 @@ fn next(s: &[u8], k: usize, b: u8) -> usize
     i
 }
 
-fn judge(wanted: &[u8], got: &[u8], entry: &[u8]) {
+fn judge(rt: &impl Print, wanted: &[u8], got: &[u8], entry: &[u8]) {
     if text::same(wanted, got) {
         return;
     }
-    say(entry);
-    say(b"\n  the reader: ");
-    say(got);
-    say(b"\n");
+    say(rt, entry);
+    say(rt, b"\n  the reader: ");
+    say(rt, got);
+    say(rt, b"\n");
 }
 
-fn try_at(target: Target, mode: Mode, wanted: &[u8], written: &[u8], entry: &[u8]) {
+fn try_at(
+    rt: &impl Print,
+    target: Target,
+    mode: Mode,
+    wanted: &[u8],
+    written: &[u8],
+    entry: &[u8],
+) {
     let mut line = [0u8; 512];
     let mut answer = [0u8; ANSWER];
     let n = decode(written, &mut line);
     let m = put_answer(target, mode, first(&line, n), &mut answer);
-    judge(wanted, first(&answer, m), entry);
+    judge(rt, wanted, first(&answer, m), entry);
 }
 
 fn behind(s: &[u8], n: usize) -> &[u8] {
@@ -149,42 +155,42 @@ fn behind(s: &[u8], n: usize) -> &[u8] {
 }
 
 // A target may stand in front of what is wanted.
-fn try_in(mode: Mode, wanted: &[u8], written: &[u8], entry: &[u8]) {
+fn try_in(rt: &impl Print, mode: Mode, wanted: &[u8], written: &[u8], entry: &[u8]) {
     match targets::target_of(first(wanted, NAME)) {
-        Named::Is(target) => try_at(target, mode, behind(wanted, NAME + 1), written, entry),
-        Named::Unknown => try_at(Target::Sm30, mode, wanted, written, entry),
+        Named::Is(target) => try_at(rt, target, mode, behind(wanted, NAME + 1), written, entry),
+        Named::Unknown => try_at(rt, Target::Sm30, mode, wanted, written, entry),
     }
 }
 
-fn try_entry(entry: &[u8]) {
+fn try_entry(rt: &impl Print, entry: &[u8]) {
     let tab = next(entry, 0, b'\t');
     if tab < entry.len() {
         let wanted = first(entry, tab);
         let written = behind(entry, tab + 1);
         if text::same(first(wanted, STRICT), b"strict ") {
-            try_in(Mode::Strict, behind(wanted, STRICT), written, entry);
+            try_in(rt, Mode::Strict, behind(wanted, STRICT), written, entry);
         } else {
-            try_in(Mode::Ordinary, wanted, written, entry);
+            try_in(rt, Mode::Ordinary, wanted, written, entry);
         }
     }
 }
 
 // How many entries there are.
-fn try_entries(s: &[u8]) -> u64 {
+fn try_entries(rt: &impl Print, s: &[u8]) -> u64 {
     let mut count = 0;
     let mut at = 0;
     while at < s.len() {
         let end = next(s, at, b'\n');
-        try_entry(&s[at..end]);
+        try_entry(rt, &s[at..end]);
         count = std::num::wrapping_add_u64(count, 1);
         at = end + 1;
     }
     count
 }
 
-fn main() {
+fn main(rt: HostRuntime) {
     let mut input = [0u8; INPUT];
-    let n = io::read_full(STDIN_FILENO, &mut input);
-    io::print_decimal(STDOUT_FILENO, try_entries(first(&input, n)));
-    say(b" lines tried\n");
+    let n = streams::read_full(&mut rt.reader(), &mut input);
+    let count = try_entries(&rt, first(&input, n));
+    let _ = println!(rt; "{count} lines tried");
 }

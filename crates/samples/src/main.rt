@@ -6,21 +6,19 @@ mod records;
 mod runs;
 mod writing;
 
-use libc::{STDIN_FILENO, STDOUT_FILENO};
-
 // More than any data has: an input that fills it may be longer.
 const INPUT: usize = 1048576;
 
-pub(crate) fn say(s: &[u8]) {
-    io::write_all(STDOUT_FILENO, s);
+pub(crate) fn say(rt: &impl Print, s: &[u8]) {
+    streams::write_all(rt, s);
 }
 
-pub(crate) fn say_byte(b: u8) {
-    say(&[b]);
+pub(crate) fn say_byte(rt: &impl Print, b: u8) {
+    say(rt, &[b]);
 }
 
-pub(crate) fn print_number(n: u64) {
-    io::print_decimal(STDOUT_FILENO, n);
+pub(crate) fn print_number(rt: &impl Print, n: u64) {
+    let _ = print!(rt; "{n}");
 }
 
 // The values of a line `V`.
@@ -46,7 +44,7 @@ fn values_of(line: &[u8]) -> Values {
     }
 }
 
-fn answer_lines(s: &[u8]) {
+fn answer_lines(rt: &impl Print, s: &[u8]) {
     let mut record = records::no_fields();
     let mut values = Values {
         count: 0,
@@ -59,13 +57,13 @@ fn answer_lines(s: &[u8]) {
         match input::byte(line, 0) {
             b'R' => {
                 record = records::fields_of(line);
-                writing::answer_record(record);
+                writing::answer_record(rt, record);
             }
             b'V' => {
                 values = values_of(line);
             }
             b'X' => {
-                runs::answer_runs(line, record, values);
+                runs::answer_runs(rt, line, record, values);
             }
             _ => {}
         }
@@ -73,25 +71,25 @@ fn answer_lines(s: &[u8]) {
     }
 }
 
-fn say_too_long() {
-    say(b"input too long\n");
+fn say_too_long(rt: &impl Print) {
+    say(rt, b"input too long\n");
 }
 
-fn answer_data(data: &mut [u8]) {
-    let n = io::read_full(STDIN_FILENO, data);
+fn answer_data(rt: &(impl Input + Print), data: &mut [u8]) {
+    let n = streams::read_full(&mut rt.reader(), data);
     if n < data.len() {
-        answer_lines(&data[0..n]);
+        answer_lines(rt, &data[0..n]);
         return;
     }
-    say_too_long();
+    say_too_long(rt);
 }
 
 // By an array, not a slice: its length is then known without counting a million bytes in the proof.
-fn answer_input(data: &mut [u8; INPUT]) {
-    answer_data(data);
+fn answer_input(rt: &(impl Input + Print), data: &mut [u8; INPUT]) {
+    answer_data(rt, data);
 }
 
-fn main() {
+fn main(rt: HostRuntime) {
     let mut data = [0u8; INPUT];
-    answer_input(&mut data);
+    answer_input(&rt, &mut data);
 }

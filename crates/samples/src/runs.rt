@@ -139,26 +139,34 @@ fn value_of(f: Files, letter: u8, n: usize) -> u64 {
     }
 }
 
-fn print_hex(x: u64, digits: u8) {
+fn print_hex(rt: &impl Print, x: u64, digits: u8) {
     let mut text = [0u8; 16];
     text::put_hex(&mut text, 0, x, digits);
     let end = (digits % 17) as usize;
-    say(&text[0..end]);
+    say(rt, &text[0..end]);
 }
 
-fn print_change(letter: u8, n: usize, before: u64, after: u64, digits: u8) {
+fn print_change(rt: &impl Print, letter: u8, n: usize, before: u64, after: u64, digits: u8) {
     if before == after {
         return;
     }
-    say_byte(letter);
-    print_number(n as u64);
-    say_byte(b'=');
-    print_hex(after, digits);
+    say_byte(rt, letter);
+    print_number(rt, n as u64);
+    say_byte(rt, b'=');
+    print_hex(rt, after, digits);
 }
 
-fn print_changes(before: Files, after: Files, letter: u8, count: usize, digits: u8) {
+fn print_changes(
+    rt: &impl Print,
+    before: Files,
+    after: Files,
+    letter: u8,
+    count: usize,
+    digits: u8,
+) {
     for n in 0..count {
         print_change(
+            rt,
             letter,
             n,
             value_of(before, letter, n),
@@ -179,13 +187,13 @@ fn target_numbered(n: usize) -> Target {
     }
 }
 
-fn print_executed(e: Executed) {
+fn print_executed(rt: &impl Print, e: Executed) {
     match e {
-        Executed::Done => say_byte(b'+'),
-        Executed::Skipped => say_byte(b'~'),
+        Executed::Done => say_byte(rt, b'+'),
+        Executed::Skipped => say_byte(rt, b'~'),
         Executed::Refused(n) => {
-            say_byte(b'-');
-            print_number(n as u64);
+            say_byte(rt, b'-');
+            print_number(rt, n as u64);
         }
     }
 }
@@ -233,7 +241,7 @@ fn executed(
     }
 }
 
-fn answer_run(record: Fields, before: Files) {
+fn answer_run(rt: &impl Print, record: Fields, before: Files) {
     let words = before.words;
     let halves = before.halves;
     let doubles = before.doubles;
@@ -251,7 +259,7 @@ fn answer_run(record: Fields, before: Files) {
         before.pred_count % 18,
     );
     let answer = r.answer;
-    print_executed(answer);
+    print_executed(rt, answer);
     let words = r.words;
     let halves = r.halves;
     let doubles = r.doubles;
@@ -261,10 +269,10 @@ fn answer_run(record: Fields, before: Files) {
     after.halves = halves;
     after.doubles = doubles;
     after.preds = preds;
-    print_changes(before, after, b'r', WORDS, 8);
-    print_changes(before, after, b'h', HALVES, 4);
-    print_changes(before, after, b'd', DOUBLES, 16);
-    print_changes(before, after, b'p', PREDS, 1);
+    print_changes(rt, before, after, b'r', WORDS, 8);
+    print_changes(rt, before, after, b'h', HALVES, 4);
+    print_changes(rt, before, after, b'd', DOUBLES, 16);
+    print_changes(rt, before, after, b'p', PREDS, 1);
 }
 
 // How often an open register goes through the values: if it is not there, once.
@@ -291,6 +299,7 @@ fn end_of(column: usize, columns: usize) -> u8 {
 }
 
 fn answer_cell(
+    rt: &impl Print,
     line: &[u8],
     record: Fields,
     values: Values,
@@ -301,15 +310,15 @@ fn answer_cell(
     let columns = turns(open, values);
     if column < columns {
         let first = values.list[row_or_column(open, row, column) % 32];
-        answer_run(record, set_up(line, first, values.list[column % 32]));
-        say_byte(end_of(column, columns));
+        answer_run(rt, record, set_up(line, first, values.list[column % 32]));
+        say_byte(rt, end_of(column, columns));
     }
 }
 
-pub(crate) fn answer_runs(line: &[u8], record: Fields, values: Values) {
+pub(crate) fn answer_runs(rt: &impl Print, line: &[u8], record: Fields, values: Values) {
     let open = set_up(line, 0, 0).open;
     let rows = turns(open / 2, values) % 33;
     for k in 0..rows * 32 {
-        answer_cell(line, record, values, open, k / 32, k % 32);
+        answer_cell(rt, line, record, values, open, k / 32, k % 32);
     }
 }

@@ -35,52 +35,52 @@ fn attempted(record: Fields, size: usize) -> Attempt {
 }
 
 // Answers the length, 0 for a refusal.
-fn print_written(w: Written) -> usize {
-    say_byte(b' ');
+fn print_written(rt: &impl Print, w: Written) -> usize {
+    say_byte(rt, b' ');
     match w {
         Written::Length(n) => {
-            print_number(n as u64);
+            print_number(rt, n as u64);
             n
         }
         Written::Refused(k) => {
-            say_byte(b'-');
-            print_number(k as u64);
+            say_byte(rt, b'-');
+            print_number(rt, k as u64);
             0
         }
     }
 }
 
 // Looks whether of the area the first n bytes of the buffer are as in the line, and all others as before.
-fn mark(area: [u8; AREA], line: [u8; AREA], n: usize) {
+fn mark(rt: &impl Print, area: [u8; AREA], line: [u8; AREA], n: usize) {
     let end = MARGIN + n % LENGTHS;
     for k in 0..AREA {
         let inside = (MARGIN <= k) & (k < end);
         if (area[k] != line[k]) & inside | (area[k] != PATTERN) & !inside {
-            say_byte(b'!');
+            say_byte(rt, b'!');
             return;
         }
     }
 }
 
 // Line: the area after writing into the longest buffer.
-fn answer_size(record: Fields, size: usize, line: [u8; AREA]) -> usize {
+fn answer_size(rt: &impl Print, record: Fields, size: usize, line: [u8; AREA]) -> usize {
     let a = attempted(record, size);
     let answer = a.answer;
-    let n = print_written(answer);
+    let n = print_written(rt, answer);
     let area = a.area;
-    mark(area, line, n);
+    mark(rt, area, line, n);
     n
 }
 
-fn answer_sizes(record: Fields, n: usize, line: [u8; AREA])
+fn answer_sizes(rt: &impl Print, record: Fields, n: usize, line: [u8; AREA])
     requires { 0 < n }
 {
-    answer_size(record, n, line);
-    answer_size(record, n - 1, line);
-    answer_size(record, 0, line);
-    say_byte(b' ');
+    answer_size(rt, record, n, line);
+    answer_size(rt, record, n - 1, line);
+    answer_size(rt, record, 0, line);
+    say_byte(rt, b' ');
     let end = MARGIN + n % LENGTHS;
-    say(&line[MARGIN..end]);
+    say(rt, &line[MARGIN..end]);
 }
 
 fn sign(legal: bool) -> u8 {
@@ -90,13 +90,13 @@ fn sign(legal: bool) -> u8 {
     b'8'
 }
 
-pub(crate) fn answer_record(record: Fields) {
-    say_byte(sign(legal::legal(record_of(record))));
+pub(crate) fn answer_record(rt: &impl Print, record: Fields) {
+    say_byte(rt, sign(legal::legal(record_of(record))));
     let a = attempted(record, BUFFER);
     let line = a.area;
-    let n = answer_size(record, BUFFER, line);
+    let n = answer_size(rt, record, BUFFER, line);
     if 0 < n {
-        answer_sizes(record, n, line);
+        answer_sizes(rt, record, n, line);
     }
-    say_byte(b'\n');
+    say_byte(rt, b'\n');
 }

@@ -7,8 +7,8 @@ ghost use Rattle.lastline.specs.Steps.{answer_room};
 
 use last::Last;
 use lastline::{Asked, Said};
-use libc::{STDERR_FILENO, STDIN_FILENO, STDOUT_FILENO};
 use record::Word;
+use std::rt::Env;
 
 // One byte more than a listing may have: a longer one is seen to be too long.
 const INPUT: usize = 65537;
@@ -23,19 +23,19 @@ const WORD_ROOM: usize = 9;
 const ASKED: u16 = 65;
 
 // Whether the system took all of the first n bytes.
-fn say_first(s: &[u8], n: usize) -> bool {
+fn say_first(rt: &impl Print, s: &[u8], n: usize) -> bool {
     if s.len() < n {
         return false;
     }
-    io::write_all(STDOUT_FILENO, &s[0..n])
+    streams::write_all(rt, &s[0..n])
 }
 
 // With that room there is a text (`no_room` of `Lays` is what a shorter buffer gets).
-fn say_answer(listing: &[u8], register: Word, out: &mut [u8])
+fn say_answer(rt: &impl Print, listing: &[u8], register: Word, out: &mut [u8])
     requires { answer_room ≤ length out.old }
 {
     if let Said::Length(n) = lastline::answer(listing, register, out) {
-        say_first(out, n);
+        say_first(rt, out, n);
     }
 }
 
@@ -47,20 +47,20 @@ fn put_distance(out: &mut [u8], at: usize, a: Last) -> usize {
     }
 }
 
-fn say_distance(listing: &[u8], n: u16) -> bool {
+fn say_distance(rt: &impl Print, listing: &[u8], n: u16) -> bool {
     let mut out = [0u8; OUTPUT];
     let at1 = text::put(&mut out, 0, b"%r");
     let at2 = text::put_decimal(&mut out, at1, n as u64);
     let at3 = text::push(&mut out, at2, b' ');
     let at4 = put_distance(&mut out, at3, last::last_writer(listing, Word(n)));
     let end = text::push(&mut out, at4, b'\n');
-    say_first(&out, end)
+    say_first(rt, &out, end)
 }
 
-fn say_distances(listing: &[u8]) {
+fn say_distances(rt: &impl Print, listing: &[u8]) {
     let mut n = 0;
     while n < ASKED {
-        if !say_distance(listing, n) {
+        if !say_distance(rt, listing, n) {
             return;
         }
         n += 1;
@@ -75,13 +75,13 @@ enum Question {
     Wrong,
 }
 
-fn question_given() -> Question {
-    if os::arg_count() != 2 {
+fn question_given(rt: &impl Env) -> Question {
+    if !streams::has_arg(rt, 1) | streams::has_arg(rt, 2) {
         return Question::Wrong;
     }
     // Of a longer word `arg` answers no byte, which is no question either.
     let mut word = [0u8; WORD_ROOM];
-    let n = os::arg(1, &mut word);
+    let n = streams::arg(rt, 1, &mut word);
     if text::same(&word[..n], b"distances") {
         return Question::Distances;
     }
@@ -91,25 +91,24 @@ fn question_given() -> Question {
     }
 }
 
-fn wrong_words() {
-    io::write_all(
-        STDERR_FILENO,
-        b"wrote: the one word behind it is a register, `%r` and a number of up to 3 digits, or `distances`\n",
+fn wrong_words(rt: &impl Eprint) {
+    let _ = eprintln!(rt;
+        "wrote: the one word behind it is a register, `%r` and a number of up to 3 digits, or `distances`"
     );
 }
 
-fn main() {
-    let asked = question_given();
+fn main(rt: HostRuntime) {
+    let asked = question_given(&rt);
     if let Question::Wrong = asked {
-        wrong_words();
+        wrong_words(&rt);
         return;
     }
     let mut input = [0u8; INPUT];
-    let n = io::read_full(STDIN_FILENO, &mut input);
+    let n = streams::read_full(&mut rt.reader(), &mut input);
     if let Question::Of(register) = asked {
         let mut out = [0u8; OUTPUT];
-        say_answer(&input[..n], register, &mut out);
+        say_answer(&rt, &input[..n], register, &mut out);
         return;
     }
-    say_distances(&input[..n]);
+    say_distances(&rt, &input[..n]);
 }
