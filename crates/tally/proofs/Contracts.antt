@@ -1,17 +1,10 @@
 -- What the contracts as they stand in src/lib.rt say: nothing is asked of the caller, and the answer and the tally are those of the call's own tally, read
 -- and floor. A weaker contract would fail here. Assumes nothing.
 use Prim.Native.Nat.{ℕ}
-use mathlib.Core.Path.{◌≡◌, refl}
+use mathlib.Core.Path.{◌≡◌}
 use mathlib.Core.Bool.{Bool}
-use seplogic.Ra.Ura.{Ura}
-use base.Logic.{SProp, emp}
-use prog.Memory.{Memory}
-use prog.Routine.{Routine}
-use types.Logic.{Logic}
 use contract.Lifetimes.{Lfts}
-use contract.Monad.{Fun, fact}
 use borrow.Fn.Kinds.{Dens, ended_of}
-use denote.Ref.{Bor}
 use denote.Triple.Clauses.{AtExit}
 use Rattle.tally.specs.Votes.{vote_of}
 use Rattle.tally.specs.Passes.{is_tally}
@@ -28,8 +21,10 @@ use Rattle.tally.proofs.empty.Kinds as empty-kinds
 use Rattle.tally.proofs.empty.Reads as empty
 use Rattle.tally.proofs.update.Kinds as update-kinds
 use Rattle.tally.proofs.update.Reads as update
-use Rattle.tally.specs.contracts.pass as pass
-use Rattle.tally.specs.contracts.lend as lend
+use Rattle.tally.proofs.pass.Kinds as pass-kinds
+use Rattle.tally.proofs.pass.Reads as pass
+use Rattle.tally.proofs.lend.Kinds as lend-kinds
+use Rattle.tally.proofs.lend.Reads as lend
 
 pub votes_asks_nothing : (κs : Lfts 0) (a : Dens κs votes-kinds.ps) → votes.Pre κs a
 votes_asks_nothing κs a = tt
@@ -61,18 +56,16 @@ pub update_promise : (κs : Lfts 0) (a : Dens κs update-kinds.ps) (x : Updated)
     → update.Post κs a x s → Leaves a.0 a.1.0 a.1.1.0 x.answer x.tally
 update_promise κs a x s p = p
 
--- `pass` and `lend` are proved by hand, so that their clauses are read from the source by `refl`
-module _ {M : Type 1} {𝓤 : Ura M} (𝓛 : Logic 𝓤) (mem : Memory → SProp 𝓤) (run : Routine → Fun 𝓤) where
-  pub pass_asks_nothing : (κs : Lfts 1) (a : Bor Tally × (Read × (ℕ × Unit {0}))) → (pass.clauses 𝓛 mem run κs a).requires tt ≡ emp 𝓤
-  pass_asks_nothing κs a = refl
+pub pass_asks_nothing : (κs : Lfts 1) (a : Dens κs pass-kinds.ps) → pass.Pre κs a
+pass_asks_nothing κs a = tt
 
-  pub pass_promise : (κs : Lfts 1) (a : Bor Tally × (Read × (ℕ × Unit {0}))) (x : Passed) (s : AtExit pass.ended κs)
-      → (pass.clauses 𝓛 mem run κs a).ensures tt x s ≡ fact 𝓤 (Leaves a.0.now a.1.0 a.1.1.0 x s.0.now)
-  pass_promise κs a x s = refl
+pub pass_promise : (κs : Lfts 1) (a : Dens κs pass-kinds.ps) (x : Passed) (s : AtExit (ended_of 1 pass-kinds.ps pass-kinds.r) κs)
+    → pass.Post κs a x s → Leaves a.0.now a.1.0 a.1.1.0 x s.0.now
+pass_promise κs a x s p = p
 
-  pub lend_asks_nothing : (κs : Lfts 0) (a : Tally × (Read × (ℕ × Unit {0}))) → (lend.clauses 𝓛 mem run κs a).requires tt ≡ emp 𝓤
-  lend_asks_nothing κs a = refl
+pub lend_asks_nothing : (κs : Lfts 0) (a : Dens κs lend-kinds.ps) → lend.Pre κs a
+lend_asks_nothing κs a = tt
 
-  pub lend_promise : (κs : Lfts 0) (a : Tally × (Read × (ℕ × Unit {0}))) (x : Updated) (s : AtExit lend.ended κs)
-      → (lend.clauses 𝓛 mem run κs a).ensures tt x s ≡ fact 𝓤 (Leaves a.0 a.1.0 a.1.1.0 x.answer x.tally)
-  lend_promise κs a x s = refl
+pub lend_promise : (κs : Lfts 0) (a : Dens κs lend-kinds.ps) (x : Updated) (s : AtExit (ended_of 0 lend-kinds.ps lend-kinds.r) κs)
+    → lend.Post κs a x s → Leaves a.0 a.1.0 a.1.1.0 x.answer x.tally
+lend_promise κs a x s p = p

@@ -10,4 +10,4 @@ use Rattle.tally.specs.contracts.Tally as T
 use Rattle.tally.specs.contracts.Entry as E
 
 pub tally_full : (t : Tally) (vs : List Val) → Is T.the_row t vs → length t.entries ≡ most_tags
-tally_full t vs p = sym (length-map t.entries (E.the_field).into) ∙ p.1.1.1.0.1.0.1
+tally_full t vs p = p.1.1.1.0.1.0.1
