@@ -12,7 +12,7 @@ use Rattle.registers.proofs.double_at.Reads as double-at
 use Rattle.registers.proofs.half_at.Kinds as half-at-kinds
 use Rattle.registers.proofs.half_at.Reads as half-at
 use Rattle.registers.proofs.low_half.Kinds as low-half-kinds
-use Rattle.registers.proofs.low_half.Reads as low_half_lem
+use Rattle.registers.proofs.low_half.Reads as low_half
 use Rattle.registers.proofs.low_word.Kinds as low-word-kinds
 use Rattle.registers.proofs.low_word.Reads as low_word
 use Rattle.registers.proofs.pred_at.Kinds as pred-at-kinds
@@ -28,7 +28,7 @@ low_word_one_outcome κs a x y s t p q = one_outcome p q
 
 pub low_half_one_outcome :
     (κs : Lfts 0) (a : Dens κs low-half-kinds.ps) (x y : ℕ) (s t : AtExit (ended_of 0 low-half-kinds.ps low-half-kinds.r) κs)
-    → low_half_lem.Post κs a x s → low_half_lem.Post κs a y t → x ≡ y
+    → low_half.Post κs a x s → low_half.Post κs a y t → x ≡ y
 low_half_one_outcome κs a x y s t p q = one_outcome p q
 
 pub bit_of_one_outcome :
