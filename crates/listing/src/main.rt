@@ -1,5 +1,6 @@
-// The listing program: reads standard input and prints what crates `report` and `changes` make of it, some lines at a time, then the registers.
-// Its first argument, if it has one, is the target's name; a second one, `strict`, asks for strict reading.
+// The listing program: reads standard input and prints what crates `report` and `changes` make of it, some lines at a
+// time, then the registers. Its first argument, if it has one, is the target's name; a second one, `strict`, asks for
+// strict reading.
 #![tactic(auto)]
 
 ghost use Rattle.std.specs.Prelude.{◌≤◌, ◌≡◌, true, length};
@@ -23,7 +24,8 @@ fn say_first(rt: &impl Print, s: &[u8], n: usize) -> bool {
     streams::write_all(rt, &s[0..n])
 }
 
-// Calls `some_lines` until the listing ends, and prints what each call has put into the buffer; false, and no more is printed, where the system does not take it.
+// Calls `some_lines` until the listing ends, and prints what each call has put into the buffer; false, and no more is
+// printed, where the system does not take it.
 fn say_lines(
     rt: &impl Print,
     target: Target,
@@ -36,7 +38,8 @@ fn say_lines(
     out: &mut [u8],
 ) -> bool
     requires { line_room ≤ length out.old }
-    ensures { result ≡ true → Told target mode listing.now (files words.old halves.old doubles.old preds.old) (files words.new halves.new doubles.new preds.new) }
+    ensures { result ≡ true → Told target mode listing.now (files words.old halves.old doubles.old preds.old)
+        (files words.new halves.new doubles.new preds.new) }
 {
     let mut at = 0;
     let mut number = 1;
@@ -130,7 +133,8 @@ fn arguments(rt: &impl Env) -> Asked {
 fn main(rt: HostRuntime) {
     let Asked::For(target, mode) = arguments(&rt) else {
         let _ = eprintln!(rt;
-            "listing: the target is sm_10, sm_13, sm_20 or sm_30, one of them; behind it may stand `strict`, and nothing else"
+            "listing: the target is sm_10, sm_13, sm_20 or sm_30, one of them; \
+             behind it may stand `strict`, and nothing else"
         );
         return;
     };

@@ -1,5 +1,5 @@
-// The tally program: reads standard input and prints what crate `passlog` makes of it, a line at a time, then the tags that the tally holds.
-// Its one argument is the floor, two hexadecimal digits.
+// The tally program: reads standard input and prints what crate `passlog` makes of it, a line at a time, then the tags
+// that the tally holds. Its one argument is the floor, two hexadecimal digits.
 #![tactic(auto)]
 
 ghost use Rattle.std.specs.Prelude.{◌≤◌, ◌≡◌, true, length};
@@ -31,7 +31,8 @@ fn say_first(rt: &impl Print, s: &[u8], n: usize) -> bool {
     streams::write_all(rt, &s[0..n])
 }
 
-// Calls `log_line` until the input ends, and prints what each call has put into the buffer; no more, where the system does not take it.
+// Calls `log_line` until the input ends, and prints what each call has put into the buffer; no more, where the system
+// does not take it.
 fn say_lines(rt: &impl Print, floor: u8, input: &[u8], out: &mut [u8]) -> Said
     requires { line_room ≤ length out.old }
     ensures { result.all ≡ true → Told floor input.now result.tally }

@@ -1,6 +1,7 @@
-// Reads the corpus on standard input, an answer, a tab and a line to each text line, and prints the entries whose answer is not the reader's own, with that, and
-// how many entries there were. A byte of a line may be written as \xHH. An answer may have a target and a space in front; without one it is that of sm_30.
-// In front of all that, `strict` and a space ask for strict reading.
+// Reads the corpus on standard input, an answer, a tab and a line to each text line, and prints the entries whose
+// answer is not the reader's own, with that, and how many entries there were. A byte of a line may be written as \xHH.
+// An answer may have a target and a space in front; without one it is that of sm_30. In front of all that, `strict` and
+// a space ask for strict reading.
 #![tactic(auto)]
 
 ghost use Rattle.std.specs.Prelude.{◌≤◌, length};

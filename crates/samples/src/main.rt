@@ -1,4 +1,5 @@
-// Prints what `legal`, `write` and `execute` say of records and runs that standard input spells: second/SAMPLES.md says how, and what is answered.
+// Prints what `legal`, `write` and `execute` say of records and runs that standard input spells: second/SAMPLES.md says
+// how, and what is answered.
 #![tactic(auto)]
 
 mod input;

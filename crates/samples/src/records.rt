@@ -8,7 +8,8 @@ use record::{
 
 // ---- the numbers of a line
 
-// The first three numbers, of which count are read, and the last twenty: t1 is the last. What kinds share stands at the end of a line.
+// The first three numbers, of which count are read, and the last twenty: t1 is the last. What kinds share stands at the
+// end of a line.
 #[derive(Clone, Copy)]
 pub(crate) struct Fields {
     count: u8,

@@ -1,4 +1,5 @@
-// The answer to a line `X`: the record is executed on the files that its tokens set up, for each value of an open register.
+// The answer to a line `X`: the record is executed on the files that its tokens set up, for each value of an open
+// register.
 ghost use Rattle.std.specs.Prelude.{◌≤◌};
 
 use crate::input::{byte, decimal, next, number};
@@ -7,8 +8,8 @@ use crate::{Values, print_number, say, say_byte};
 use execute::Executed;
 use record::Target;
 
-// The files, one place more than usual, how many places of each are lent, the target's number, how many registers are open, and the values of the next
-// two.
+// The files, one place more than usual, how many places of each are lent, the target's number, how many registers are
+// open, and the values of the next two.
 #[derive(Clone, Copy)]
 struct Files {
     words: [u32; 65],

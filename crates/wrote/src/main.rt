@@ -1,5 +1,6 @@
-// Who wrote this last: reads standard input, a listing, and prints what crate `lastline` makes of it and of the register that is the one argument. With the
-// argument `distances` it prints the answers of crate `last` as they are, for `%r0` to `%r64`.
+// Who wrote this last: reads standard input, a listing, and prints what crate `lastline` makes of it and of the
+// register that is the one argument. With the argument `distances` it prints the answers of crate `last` as they are,
+// for `%r0` to `%r64`.
 #![tactic(auto)]
 
 ghost use Rattle.std.specs.Prelude.{◌≤◌, length};

@@ -5,7 +5,10 @@ use Rattle.passlog.specs.OutputLaws.{Called}
 use Rattle.passes.proofs.say_lines.Given as goal
 
 abbrev pub invariant-loop-at : goal.invariant-loop-at
-invariant-loop-at g l = (line_room ≤ length l.out) × (length l.out ≡ length l.initial.out) × Called l.floor l.input l.at l.number l.t
+invariant-loop-at g l =
+    (line_room ≤ length l.out)
+    × (length l.out ≡ length l.initial.out)
+    × Called l.floor l.input l.at l.number l.t
 
 abbrev pub decreases-loop-at : goal.decreases-loop-at
 decreases-loop-at g l = length l.input - l.at
