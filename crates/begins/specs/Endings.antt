@@ -1,5 +1,5 @@
 -- Whether some list of a set begins so is found by trying endings, if these are enough. Said once, for any set of lists of anything.
-use Rattle.std.specs.Prelude.{ℕ, zero, suc, ◌+◌, ◌-◌, ◌≤◌, ◌<◌, ◌≡◌, refl, Bool, true, false, ◌||◌, cond, List, [], ◌∷◌, ◌++◌, map, eqb, length, take, get_or}
+use Rattle.std.specs.Prelude.{ℕ, zero, suc, ◌-◌, ◌≤◌, ◌<◌, ◌≡◌, refl, Bool, true, false, ◌||◌, cond, List, [], ◌∷◌, ◌++◌, map, eqb, length, take, get_or}
 use Rattle.std.proofs.Common.{arith, ap, ◌∙◌, ne_eqb}
 use Rattle.rules.specs.BytePlaces.{Begins}
 

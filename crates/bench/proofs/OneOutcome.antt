@@ -4,14 +4,14 @@ use contract.Lifetimes.{Lfts}
 use borrow.Fn.Kinds.{Dens, ended_of}
 use denote.Triple.Clauses.{AtExit}
 use Rattle.base.specs.Promise.{one_outcome}
-use Rattle.rules.specs.Executing.{Outcome}
-use Rattle.execute.specs.Answers.{answers_one}
+use Rattle.rules.specs.Executing as executing
+use Rattle.execute.specs.Answers as executed
 use Rattle.execute.specs.declared.Executed.{Executed}
 use Rattle.read.specs.Answering.{answers_unique}
 use Rattle.read.specs.Paper.{answers_one}
 use Rattle.read.specs.declared.Reading.{Reading}
-use Rattle.rules.specs.Writing.{Outcome}
-use Rattle.write.specs.Answers.{answers_one}
+use Rattle.rules.specs.Writing as writing
+use Rattle.write.specs.Answers as written
 use Rattle.write.specs.declared.Written.{Written}
 use Rattle.bench.proofs.execute.Kinds as execute-kinds
 use Rattle.bench.proofs.execute.Reads as execute
@@ -26,7 +26,7 @@ pub execute_one_outcome :
     → (x ≡ y) × (s.1.1.0.now ≡ t.1.1.0.now) × (s.1.1.1.0.now ≡ t.1.1.1.0.now) × (s.1.1.1.1.0.now ≡ t.1.1.1.1.0.now) × (s.1.1.1.1.1.0.now ≡ t.1.1.1.1.1.0.now)
 execute_one_outcome κs a x y s t p q =
     let z = one_outcome p q in
-    (answers_one x y (ap (λ (o : Outcome). o.answer) z), ap (λ (o : Outcome). o.files.words) z, ap (λ (o : Outcome). o.files.halves) z, ap (λ (o : Outcome). o.files.doubles) z, ap (λ (o : Outcome). o.files.preds) z)
+    (executed.answers_one x y (ap (λ (o : executing.Outcome). o.answer) z), ap (λ (o : executing.Outcome). o.files.words) z, ap (λ (o : executing.Outcome). o.files.halves) z, ap (λ (o : executing.Outcome). o.files.doubles) z, ap (λ (o : executing.Outcome). o.files.preds) z)
 
 pub read_one_outcome :
     (κs : Lfts 1) (a : Dens κs read-kinds.ps) (x y : Reading) (s t : AtExit (ended_of 1 read-kinds.ps read-kinds.r) κs)
@@ -39,4 +39,4 @@ pub write_one_outcome :
     → (x ≡ y) × (s.1.0.now ≡ t.1.0.now)
 write_one_outcome κs a x y s t p q =
     let z = one_outcome p q in
-    (answers_one x y (ap (λ (o : Outcome). o.answer) z), ap (λ (o : Outcome). o.buffer) z)
+    (written.answers_one x y (ap (λ (o : writing.Outcome). o.answer) z), ap (λ (o : writing.Outcome). o.buffer) z)

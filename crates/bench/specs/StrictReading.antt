@@ -27,7 +27,7 @@ use Rattle.rules.specs.Executing.{Admitted}
 use Rattle.rules.specs.Targets.{allows, Allowed}
 use Rattle.rules.specs.Strict.{origin, lanes_against_itself, against_itself, passes}
 use Rattle.rules.specs.StandardLine.{standard}
-use Rattle.rules.specs.Reading.{Relates, Applies, too_long, shapeless, unknown, rowless, unfit, outside, equal, too_old, against_itself_lem, reading_order, FirstOf, this, next, Placed, placeless, Answer, read, refused, refused_at, Answers, accepts, refuses, refuses_at}
+use Rattle.rules.specs.Reading.{Relates, Applies, too_long, shapeless, unknown, rowless, unfit, outside, equal, too_old, against_self, reading_order, FirstOf, this, next, Placed, placeless, Answer, read, refused, refused_at, Answers, accepts, refuses, refuses_at}
 use Rattle.laws.specs.PlaceLaws as places
 use Rattle.laws.specs.PlaceLaws.{off}
 use Rattle.laws.specs.LaneLaws.{digit_named}
@@ -169,17 +169,19 @@ ordinary_accepted target l x (accepts m q h) = (q, h.allowed)
 -- 15 does not apply to any line, so that the order of refusals is the one before, 1 to 7 and 12
 pub ordinary_without_15 : (target : Target) (l : List ℕ) → Applies target Ordinary l 15 → ⊥
 unfolding passes
-ordinary_without_15 target l (against_itself_lem x q e) = off e
+ordinary_without_15 target l (against_self x q e) = off e
 
 abbrev pub order_before : List ℕ
 order_before = 1 ∷ 2 ∷ 3 ∷ 4 ∷ 5 ∷ 6 ∷ 7 ∷ 12 ∷ []
 
 module _ (target : Target) (l : List ℕ) where
   longer : (n : ℕ) (ns : List ℕ) → FirstOf target Ordinary l n ns → FirstOf target Ordinary l n (ns ++ (15 ∷ []))
+  longer n [] x' = elim x' [ ]
   longer n (k ∷ ns) (this a) = this a
   longer n (k ∷ ns) (next z f) = next z (longer n ns f)
 
   shorter : (n : ℕ) (ns : List ℕ) → FirstOf target Ordinary l n (ns ++ (15 ∷ [])) → FirstOf target Ordinary l n ns
+  shorter n [] (next z f) = elim f [ ]
   shorter n [] (this a) = absurd (ordinary_without_15 target l a)
   shorter n (k ∷ ns) (this a) = this a
   shorter n (k ∷ ns) (next z f) = next z (shorter n ns f)
@@ -200,6 +202,7 @@ ordinary_refused target l n (refuses f i) = (first_before target l n f, go i)
     go : Listed n placeless → Listed n placeless_before
     go (here e) = here e
     go (later (here e)) = later (here e)
+    go (later (later (later x10))) = elim x10 [ ]
     go (later (later (here e))) = absurd (ordinary_without_15 target l (subst (Applies target Ordinary l) e (answering.first_applies target Ordinary l n reading_order f)))
 
 pub refused_ordinary : (target : Target) (l : List ℕ) (n : ℕ) → FirstOf target Ordinary l n order_before → Listed n placeless_before → Answers target Ordinary l (refused n)
@@ -207,6 +210,7 @@ refused_ordinary target l n f i = refuses (before_first target l n f) (go i)
   where
     go : Listed n placeless_before → Listed n placeless
     go (here e) = here e
+    go (later (later x6)) = elim x6 [ ]
     go (later (here e)) = later (here e)
 
 pub ordinary_refused_at : (target : Target) (l : List ℕ) (n q : ℕ) → Answers target Ordinary l (refused_at n q) → FirstOf target Ordinary l n order_before × Placed l n q
@@ -225,7 +229,7 @@ applies_alike target mode way l n z (unfit t s i w h) = unfit t s i w h
 applies_alike target mode way l n z (outside t s k q a b) = outside t s k q a b
 applies_alike target mode way l n z (equal t s k a) = equal t s k a
 applies_alike target mode way l n z (too_old x q a) = too_old x q a
-applies_alike target mode way l n z (against_itself_lem x q e) = absurd (z refl)
+applies_alike target mode way l n z (against_self x q e) = absurd (z refl)
 
 -- ==== 15 and the targets: only sm_30 allows a line that is against itself, so each older target gives it 12
 

@@ -401,8 +401,8 @@ questions =
     ∷ asks itself_lines 10 (last.distance 84)
     -- no line at all; `%r63` is a register, `%r64` is over 63
     ∷ asks [] 63 last.none_has
-    ∷ asks [] 64 (last.refused_by_lem 6)
-    ∷ asks who_wrote 64 (last.refused_by_lem 6)
+    ∷ asks [] 64 (last.refused_by 6)
+    ∷ asks who_wrote 64 (last.refused_by 6)
     ∷ []
 
 -- what is printed of some: number and standard line of the line found, `none`, a refusal
@@ -501,11 +501,11 @@ pub shown_hold : EachShows shown
 shown_hold = each_shown shown answered_computed.4
 
 -- 65,536 bytes are no longer listing
-pub limit_in : (answer : List ℕ → Answer) → last_of answer (replicate 65536 line_feed) 64 ≡ last.refused_by_lem 6
+pub limit_in : (answer : List ℕ → Answer) → last_of answer (replicate 65536 line_feed) 64 ≡ last.refused_by 6
 unfolding last_of
 limit_in answer = refl
 
 -- 22 for a longer one, before 6
-pub long_first : (answer : List ℕ → Answer) → last_of answer (replicate 65537 line_feed) 64 ≡ last.refused_by_lem 22
+pub long_first : (answer : List ℕ → Answer) → last_of answer (replicate 65537 line_feed) 64 ≡ last.refused_by 22
 unfolding last_of
 long_first answer = refl

@@ -1,6 +1,5 @@
 -- The code's side of an operand that is a register: which kind stands where. No one has to believe it: laws join it to the operand's tree.
 use Rattle.std.specs.Prelude.{Bool, true, false}
-use Rattle.record.specs.declared.Operand
 use Rattle.record.specs.declared.Operand.{Operand}
 use Rattle.record.specs.declared.Destination.TheVariants.{One, Pair, First, Second}
 use Rattle.record.specs.declared.Pred.{Pred}
@@ -10,17 +9,11 @@ use Rattle.tree.specs.declared.Spot.{Spot}
 use Rattle.tree.specs.declared.Spot.TheVariants as spot
 use Rattle.tree.specs.declared.Tree.{Tree}
 use Rattle.tree.specs.declared.Tree.TheVariants as tree
-use Rattle.kinds.specs.declared.WordFound
 use Rattle.kinds.specs.declared.WordFound.{WordFound}
-use Rattle.kinds.specs.declared.PredFound
 use Rattle.kinds.specs.declared.PredFound.{PredFound}
-use Rattle.kinds.specs.declared.OperandFound
 use Rattle.kinds.specs.declared.OperandFound.{OperandFound}
-use Rattle.kinds.specs.declared.ConditionFound
 use Rattle.kinds.specs.declared.ConditionFound.{ConditionFound}
-use Rattle.kinds.specs.declared.SpotFound
 use Rattle.kinds.specs.declared.SpotFound.{SpotFound}
-use Rattle.kinds.specs.declared.DestinationFound
 use Rattle.kinds.specs.declared.DestinationFound.{DestinationFound}
 
 abbrev pub as_word : Place → WordFound

@@ -55,7 +55,7 @@ pub data Answer : Type 0 where
   distance : ℕ → Answer
   -- or that none has
   none_has : Answer
-  refused_by_lem : ℕ → Answer
+  refused_by : ℕ → Answer
 
 abbrev pub told : Option ℕ → Answer
 told (some d) = distance d
@@ -64,8 +64,8 @@ told none = none_has
 -- 22 for a longer listing, then 6 for a register over 63
 unfoldable pub last_of : (List ℕ → reading.Answer) → List ℕ → ℕ → Answer
 last_of answer s n =
-    cond (ltb listing_limit (length s)) (refused_by_lem 22)
-    (cond (leb word_count n) (refused_by_lem 6)
+    cond (ltb listing_limit (length s)) (refused_by 22)
+    (cond (leb word_count n) (refused_by 6)
     (told (last_in answer n (length s) 0 (lines_of s))))
 
 -- The answer equals that of a full reading from the front. There is one, and all give the same (`read_of_full`, `one_reading`, LastLaws)
@@ -76,7 +76,7 @@ ByFullReading s n a = (answer : List ℕ → reading.Answer) → FullReading ans
 abbrev pub answer_of : Last → Answer
 answer_of (Distance d) = distance d
 answer_of Nowhere = none_has
-answer_of (Refused k) = refused_by_lem k
+answer_of (Refused k) = refused_by k
 
 -- one to one: no two answers say the same
 pub answers_one : (x y : Last) → answer_of x ≡ answer_of y → x ≡ y

@@ -9,7 +9,7 @@ use Rattle.record.specs.declared.Target.TheVariants.{Sm30}
 use Rattle.rules.specs.Executing.{destinations}
 use Rattle.rules.specs.Reading.{Answers, read}
 use Rattle.lines.specs.Lines.{lines_of, listing_limit, Stands}
-use Rattle.last.specs.Last.{Answer, distance, none_has, refused_by_lem}
+use Rattle.last.specs.Last.{Answer, distance, none_has, refused_by}
 
 -- a line accepted at sm_30 that has `%rn` as destination, guarded or not
 pub record Has (n : ℕ) (l : List ℕ) : Type 0 where
@@ -22,9 +22,9 @@ NoneHas n ls = (l : List ℕ) → Listed l ls → Has n l → ⊥
 
 pub data LastIs (s : List ℕ) (n : ℕ) : Answer → Type 0 where
   -- 22 for a longer listing
-  too_long : listing_limit < length s → LastIs s n (refused_by_lem 22)
+  too_long : listing_limit < length s → LastIs s n (refused_by 22)
   -- then 6 for a register over 63
-  no_register : length s ≤ listing_limit → word_count ≤ n → LastIs s n (refused_by_lem 6)
+  no_register : length s ≤ listing_limit → word_count ≤ n → LastIs s n (refused_by 6)
   -- none has
   nowhere : length s ≤ listing_limit → n < word_count → NoneHas n (lines_of s) → LastIs s n none_has
   -- a line that has it stands at that distance, and no line behind it has

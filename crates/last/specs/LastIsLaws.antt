@@ -20,7 +20,7 @@ use Rattle.rules.specs.Reading.{Answers, read, refused, refused_at}
 use Rattle.rules.specs.Reading as reading
 use Rattle.lines.specs.Lines.{lines_of, listing_limit, WholeLines, Stands}
 use Rattle.lines.specs.LineLaws.{widths, whole_lines, whole_widths, whole_append, standing, stands_sizes, stands_from, stands_behind}
-use Rattle.last.specs.Last.{is_word, has_word, has_destination, FullReading, later, last_in, Answer, distance, refused_by_lem, told, last_of, ByFullReading}
+use Rattle.last.specs.Last.{is_word, has_word, has_destination, FullReading, later, last_in, Answer, distance, refused_by, told, last_of, ByFullReading}
 use Rattle.last.specs.Back.{own_answer, own_has}
 use Rattle.last.specs.BackLaws.{last_append}
 use Rattle.last.specs.LastIs.{Has, NoneHas, LastIs, too_long, no_register, nowhere, at_distance}
@@ -47,6 +47,7 @@ has_listed n (q ∷ qs) e =
     either (has_word n qs) (is_word n q) e (Listed (word n) (q ∷ qs)) (λ h. further (has_listed n qs h)) (λ h. here (word_is n q h))
 
 listed_has : (n : ℕ) (qs : List Place) → Listed (word n) qs → has_word n qs ≡ true
+listed_has n [] x' = elim x' [ ]
 listed_has n (q ∷ qs) (here e) = rw (← e, eq-eqb n n refl) (or-true (has_word n qs))
 listed_has n (q ∷ qs) (further h) = rw (listed_has n qs h)
 
@@ -124,7 +125,7 @@ module _ (answer : List ℕ → reading.Answer) (full : FullReading answer) wher
           subst (λ (i : ℕ). LastIs s n (distance i)) d (at_distance h k (standing xs s l ys e).1 m w)
 
       go : (t u : Bool) → ltb listing_limit (length s) ≡ t → leb word_count n ≡ u → {x : Option ℕ} → Sought n (length s) 0 (lines_of s) x
-          → LastIs s n (cond t (refused_by_lem 22) (cond u (refused_by_lem 6) (told x)))
+          → LastIs s n (cond t (refused_by 22) (cond u (refused_by 6) (told x)))
       go true u i j q = too_long (ltb-true listing_limit (length s) i)
       go false true i j q = no_register (ltb-false listing_limit (length s) i) (leb-true word_count n j)
       go false false i j q = found (ltb-false listing_limit (length s) i) (leb-false word_count n j) q

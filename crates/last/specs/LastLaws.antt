@@ -13,7 +13,7 @@ use Rattle.rules.specs.Reading.{Answers}
 use Rattle.rules.specs.Reading as reading
 use Rattle.read.specs.Answering.{answers, answers_unique}
 use Rattle.lines.specs.Lines.{lines_of, listing_limit}
-use Rattle.last.specs.Last.{has_destination, FullReading, last_in, Answer, refused_by_lem, told, last_of}
+use Rattle.last.specs.Last.{has_destination, FullReading, last_in, Answer, refused_by, told, last_of}
 use Rattle.last.specs.Back.{own_answer, own_has, last_beyond}
 
 -- the reader's own reading is a full one,
@@ -46,11 +46,11 @@ unfolding last_beyond
 from_the_end s n = rw (sub-zero (length s), take-length s)
 
 module _ (s : List ℕ) (n : ℕ) (answer : List ℕ → reading.Answer) (full : FullReading answer) where
-  pub ends_long : ltb listing_limit (length s) ≡ true → refused_by_lem 22 ≡ last_of answer s n
+  pub ends_long : ltb listing_limit (length s) ≡ true → refused_by 22 ≡ last_of answer s n
   unfolding last_of
   ends_long h = rw h
 
-  pub ends_register : ltb listing_limit (length s) ≡ false → leb word_count n ≡ true → refused_by_lem 6 ≡ last_of answer s n
+  pub ends_register : ltb listing_limit (length s) ≡ false → leb word_count n ≡ true → refused_by 6 ≡ last_of answer s n
   unfolding last_of
   ends_register h k = rw (h, k)
 

@@ -14,7 +14,7 @@ use Rattle.rules.specs.StandardLine.{standard}
 use Rattle.rules.specs.Reading.{Answers, read}
 use Rattle.lines.specs.Lines.{lines_of, Stands}
 use Rattle.report.specs.Listing.{refused_text}
-use Rattle.last.specs.Last.{Answer, distance, none_has, refused_by_lem, ByFullReading}
+use Rattle.last.specs.Last.{Answer, distance, none_has, refused_by, ByFullReading}
 
 -- ==== the word
 
@@ -42,7 +42,7 @@ found_text number m = decimal number ++ bytes " " ++ standard m
 pub data TextOf (s : List ℕ) : Answer → List ℕ → Type 0 where
   line_found : {d number : ℕ} {m : Record} → LineAt s d number m → TextOf s (distance d) (found_text number m)
   none_found : TextOf s none_has (bytes "none")
-  refused : {k : ℕ} → TextOf s (refused_by_lem k) (refused_text k)
+  refused : {k : ℕ} → TextOf s (refused_by k) (refused_text k)
 
 -- what is printed of a listing and a register, with a line feed
 pub data Printed (s : List ℕ) (n : ℕ) : List ℕ → Type 0 where

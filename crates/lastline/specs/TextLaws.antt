@@ -32,7 +32,7 @@ use Rattle.lines.specs.LineLaws.{stands_sizes, stands_inside, stands_before, sta
 use Rattle.report.specs.Listing.{refused_text}
 use Rattle.report.specs.Chunks.{line_text}
 use Rattle.report.specs.ChunkLaws.{legal_of}
-use Rattle.last.specs.Last.{Answer, distance, none_has, refused_by_lem, last_of}
+use Rattle.last.specs.Last.{Answer, distance, none_has, refused_by, last_of}
 use Rattle.last.specs.Back.{own_answer}
 use Rattle.last.specs.LastLaws.{read_of_full}
 use Rattle.last.specs.LastIs.{LastIs, too_long, no_register, nowhere, at_distance}
@@ -179,7 +179,7 @@ found_by s d (reading.refused_at k p) = []
 abbrev text_by : List ℕ → Answer → List ℕ
 text_by s (distance d) = found_by s d (own_answer (before line_feed (drop (length s - d) s)))
 text_by s none_has = bytes "none"
-text_by s (refused_by_lem k) = refused_text k
+text_by s (refused_by k) = refused_text k
 
 abbrev pub computed : List ℕ → ℕ → List ℕ
 computed s n = text_by s (last_of own_answer s n) ++ (line_feed ∷ [])
@@ -251,7 +251,7 @@ put_by_line f (line_found z) = f _ _ z
 pub put_by_none : {s t : List ℕ} {x y : Buffer} → Puts x (bytes "none") y → TextOf s none_has t → Puts x t y
 put_by_none f none_found = f
 
-pub put_by_number : {s t : List ℕ} {k : ℕ} {x y : Buffer} → Puts x (refused_text k) y → TextOf s (refused_by_lem k) t → Puts x t y
+pub put_by_number : {s t : List ℕ} {k : ℕ} {x y : Buffer} → Puts x (refused_text k) y → TextOf s (refused_by k) t → Puts x t y
 put_by_number f refused = f
 
 pub answer_put : {s : List ℕ} {n : ℕ} {a : Answer} {x y z : Buffer} → LastIs s n a → ((t : List ℕ) → TextOf s a t → Puts x t y) → Puts y (line_feed ∷ []) z → PutsPrinted s n x z

@@ -1,9 +1,7 @@
 -- The values of each choice in the documents as a list: a law of every name is then one computed test over it (`each`). Assumes nothing.
 use Rattle.std.specs.Prelude.{ℕ, refl, [], ◌∷◌}
 use Rattle.base.specs.Values.{Values, StandsAt}
-use Rattle.record.specs.declared.VideoType
 use Rattle.record.specs.declared.VideoType.{VideoType}
-use Rattle.record.specs.declared.SetType
 use Rattle.record.specs.declared.SetType.{SetType}
 use Rattle.record.specs.declared.DataType.{DataType}
 use Rattle.record.specs.declared.DataType.TheVariants.{B16, B32, B64, U16, U32, U64, S16, S32, S64, F32, F64}
@@ -11,7 +9,6 @@ use Rattle.record.specs.declared.Cmp6.{Cmp6}
 use Rattle.record.specs.declared.Cmp6.TheVariants.{Eq, Ne, Lt, Le, Gt, Ge}
 use Rattle.record.specs.declared.CmpU.TheVariants.{Lo, Ls, Hi, Hs}
 use Rattle.record.specs.declared.CmpF.TheVariants.{Equ, Neu, Ltu, Leu, Gtu, Geu, Num, Nan}
-use Rattle.record.specs.declared.CmpOp
 use Rattle.record.specs.declared.CmpOp.{CmpOp}
 use Rattle.record.specs.declared.BoolOp.{BoolOp}
 use Rattle.record.specs.declared.BoolOp.TheVariants.{And, Or, Xor}
@@ -19,7 +16,6 @@ use Rattle.record.specs.declared.Op2.{Op2}
 use Rattle.record.specs.declared.Op2.TheVariants.{Add, Min, Max}
 use Rattle.record.specs.declared.Arith.{Arith}
 use Rattle.record.specs.declared.Arith.TheVariants.{Vadd, Vsub, Vabsdiff, Vmin, Vmax}
-use Rattle.record.specs.declared.LaneArith
 use Rattle.record.specs.declared.LaneArith.{LaneArith}
 use Rattle.record.specs.declared.LaneWidth.{LaneWidth}
 use Rattle.record.specs.declared.LaneWidth.TheVariants.{Half, Byte}

@@ -4,16 +4,14 @@ use Rattle.std.proofs.Common.{sym, ap₂, subst, ◌∙◌}
 use Rattle.std.proofs.Math.Path.{ap}
 use Rattle.signs.specs.Lists.{Listed}
 use Rattle.signs.specs.Lists.Listed.{here, later}
-use Rattle.record.specs.Registers.{Files, files, r, number_of, at, Inside, is_inside}
+use Rattle.record.specs.Registers.{Files, r, number_of, at, Inside, is_inside}
 use Rattle.record.specs.declared.Word.{Word}
 use Rattle.record.specs.declared.Arith.{Arith}
 use Rattle.record.specs.declared.Arith.TheVariants.{Vadd}
-use Rattle.record.specs.declared.LaneArith
 use Rattle.record.specs.declared.LaneArith.{LaneArith}
 use Rattle.record.specs.declared.VideoType.{VideoType}
 use Rattle.record.specs.declared.Lanes.{Lanes}
 use Rattle.record.specs.declared.Form.TheVariants.{Merge}
-use Rattle.record.specs.declared.Scalar.{Scalar}
 use Rattle.record.specs.declared.Instruction.TheVariants.{ArithmeticLanes}
 use Rattle.record.specs.declared.Record.{Record}
 use Rattle.record.specs.declared.Target.{Target}

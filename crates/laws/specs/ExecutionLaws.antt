@@ -1,5 +1,5 @@
 -- What a technician asks of execution, proved of the definitions: lanes, counts, places. Assumes nothing.
-use Rattle.std.specs.Prelude.{ℕ, zero, suc, ◌+◌, ◌-◌, ◌/◌, ◌%◌, ◌<◌, ◌≡◌, refl, Bool, true, false, not, ◌&&◌, cond, eqb, ℤ, pos, negsuc, ◌+ℤ◌}
+use Rattle.std.specs.Prelude.{ℕ, zero, suc, ◌+◌, ◌-◌, ◌/◌, ◌%◌, ◌<◌, ◌≡◌, refl, Bool, true, false, ◌&&◌, cond, eqb, ℤ, pos, negsuc, ◌+ℤ◌}
 use Rattle.std.proofs.Math.Nat.{add-mul-mod_self_left, add-mul-div_left, div-eq_of_lt}
 use Rattle.std.proofs.Common.{mod-eq_of_lt, mod-lt, zero-add, arith, sym, ap, ap₂, ◌∙◌, lit<, eq-eqb, ne_eqb, lt-ltb}
 use Rattle.record.specs.declared.Cmp6.{Cmp6}
@@ -10,7 +10,6 @@ use Rattle.record.specs.declared.LaneWidth.TheVariants.{Half, Byte}
 use Rattle.record.specs.declared.Lanes.{Lanes}
 use Rattle.rules.specs.Numbers.{word_size, lane_size, lanes, part_at, joined, low_of, bit}
 use Rattle.rules.specs.Execution.{replaced, mask_at, lane_holds, merged_lane, merged, count, lanes_of, halved, lane_result, sum_z, group_of, arithmetic_lanes_of}
-use Rattle.record.specs.Registers.{word}
 
 -- ==== parts of a word, once over the number n of a part's values
 

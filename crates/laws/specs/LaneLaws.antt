@@ -12,7 +12,6 @@ use Rattle.record.specs.Operands.{digit_fits, digits_fit}
 use Rattle.record.specs.declared.VideoType.{VideoType}
 use Rattle.record.specs.declared.Word.{Word}
 use Rattle.record.specs.declared.Arith.{Arith}
-use Rattle.record.specs.declared.LaneArith
 use Rattle.record.specs.declared.LaneArith.{LaneArith}
 use Rattle.record.specs.declared.LaneWidth.{LaneWidth}
 use Rattle.record.specs.declared.LaneWidth.TheVariants.{Half, Byte}

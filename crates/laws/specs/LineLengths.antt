@@ -6,10 +6,8 @@ use Rattle.signs.specs.Text.{bytes}
 use Rattle.base.specs.Values.{Values, every, each}
 use Rattle.record.specs.Operands.{full_mask, default_a, default_b}
 use Rattle.record.specs.Refusals.{is_legal, Legal, guard_in_range, selected_in_range, form_in_range, lanes_in_range, operand_in_range, combination_in_range, destination_in_range, instruction_in_range}
-use Rattle.record.specs.declared.VideoType
 use Rattle.record.specs.declared.VideoType.{VideoType}
 use Rattle.record.specs.declared.SetType.{SetType}
-use Rattle.record.specs.declared.SlctType
 use Rattle.record.specs.declared.SlctType.{SlctType}
 use Rattle.record.specs.declared.DataType.{DataType}
 use Rattle.record.specs.declared.Cmp6.{Cmp6}
@@ -18,7 +16,6 @@ use Rattle.record.specs.declared.BoolOp.{BoolOp}
 use Rattle.record.specs.declared.Op2.{Op2}
 use Rattle.record.specs.declared.Arith.{Arith}
 use Rattle.record.specs.declared.Arith.TheVariants.{Vabsdiff}
-use Rattle.record.specs.declared.LaneArith
 use Rattle.record.specs.declared.LaneArith.{LaneArith}
 use Rattle.record.specs.declared.Word.{Word}
 use Rattle.record.specs.declared.Condition.{Condition}
@@ -36,7 +33,6 @@ use Rattle.record.specs.declared.LaneWidth.TheVariants.{Half, Byte}
 use Rattle.record.specs.declared.Mask.{Mask}
 use Rattle.record.specs.declared.Digits.{Digits}
 use Rattle.record.specs.declared.Lanes.{Lanes}
-use Rattle.record.specs.declared.Operand
 use Rattle.record.specs.declared.Operand.{Operand}
 use Rattle.record.specs.declared.Destination.{Destination}
 use Rattle.record.specs.declared.Destination.TheVariants.{One, Pair, First, Second}

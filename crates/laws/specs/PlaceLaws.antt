@@ -20,7 +20,6 @@ use Rattle.record.specs.declared.Form.{Form}
 use Rattle.record.specs.declared.Form.TheVariants.{Plain, Merge, Combine}
 use Rattle.record.specs.declared.Scalar.{Scalar}
 use Rattle.record.specs.declared.Lanes.{Lanes}
-use Rattle.record.specs.declared.Operand
 use Rattle.record.specs.declared.Operand.{Operand}
 use Rattle.record.specs.declared.Choice.{Choice}
 use Rattle.record.specs.declared.Combination.{Combination}

@@ -14,7 +14,6 @@ use Rattle.record.specs.Operands.{full_mask, default_a, default_b, instruction_o
 use Rattle.record.specs.Refusals.{is_legal, Legal, condition_in_range, guard_in_range, selected_in_range, form_in_range, scalar_in_range, lanes_in_range, combination_in_range, comparison_in_range, destination_in_range, choice_in_range, instruction_in_range}
 use Rattle.record.specs.declared.VideoType.{VideoType}
 use Rattle.record.specs.declared.SetType.{SetType}
-use Rattle.record.specs.declared.SlctType
 use Rattle.record.specs.declared.SlctType.{SlctType}
 use Rattle.record.specs.declared.DataType.{DataType}
 use Rattle.record.specs.declared.Cmp6.{Cmp6}

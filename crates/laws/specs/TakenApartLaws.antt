@@ -6,14 +6,13 @@ use Rattle.std.proofs.Math.Bool.{and-eq-true_iff}
 use mathlib.Core.List.{List, [], ◌∷◌, map}
 use Rattle.signs.specs.Lists.{later, Listed}
 use Rattle.signs.specs.Lists.Listed.{here}
-use Rattle.record.specs.Registers.{Files, files, r, number_of, at, Inside, is_inside, word_count}
+use Rattle.record.specs.Registers.{Files, r, number_of, at, Inside, is_inside, word_count}
 use Rattle.record.specs.Operands.{lanes_fit, mask_fits, digits_fit, instruction_operands_fit}
 use Rattle.record.specs.Refusals.{is_legal, Legal, guard_in_range, selected_in_range, form_in_range, scalar_in_range, lanes_in_range, instruction_in_range}
 use Rattle.record.specs.declared.Word.{Word}
 use Rattle.record.specs.declared.Cmp6.{Cmp6}
 use Rattle.record.specs.declared.Arith.{Arith}
 use Rattle.record.specs.declared.Selected.TheVariants.{Whole}
-use Rattle.record.specs.declared.LaneArith
 use Rattle.record.specs.declared.LaneArith.{LaneArith}
 use Rattle.record.specs.declared.VideoType.{VideoType}
 use Rattle.record.specs.declared.Lanes.{Lanes}

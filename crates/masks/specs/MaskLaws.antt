@@ -18,9 +18,7 @@ use Rattle.laws.specs.StandardTree.{named, mask_named, digits_named_lem}
 use Rattle.base.specs.PackLaws.{code_known}
 use Rattle.masks.specs.Masks.{lane_digit, no_lane, naming, comes_next, left_of, falling, mask_of, digits_in, digits_named}
 use Rattle.masks.specs.Numbers.{lanes_text, added, mask_spells, letter_spells}
-use Rattle.masks.specs.declared.MaskFound
 use Rattle.masks.specs.declared.MaskFound.{MaskFound}
-use Rattle.masks.specs.declared.DigitsFound
 use Rattle.masks.specs.declared.DigitsFound.{DigitsFound}
 
 -- ==== tests

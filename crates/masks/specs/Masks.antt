@@ -8,9 +8,7 @@ use Rattle.record.specs.declared.Digits.{Digits}
 use Rattle.signs.specs.Digits.{zero_byte}
 use Rattle.rules.specs.Numbers.{lanes}
 use Rattle.rules.specs.Names.{lane_letter, digits_name}
-use Rattle.masks.specs.declared.MaskFound
 use Rattle.masks.specs.declared.MaskFound.{MaskFound}
-use Rattle.masks.specs.declared.DigitsFound
 use Rattle.masks.specs.declared.DigitsFound.{DigitsFound}
 
 -- ==== masks

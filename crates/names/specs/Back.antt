@@ -18,30 +18,19 @@ use Rattle.record.specs.declared.CmpOp.{CmpOp}
 use Rattle.record.specs.declared.BoolOp.{BoolOp}
 use Rattle.record.specs.declared.Op2.{Op2}
 use Rattle.record.specs.declared.Arith.TheVariants.{Vadd, Vsub, Vabsdiff, Vmin, Vmax}
-use Rattle.record.specs.declared.LaneArith
 use Rattle.record.specs.declared.LaneArith.{LaneArith}
 use Rattle.record.specs.declared.LaneWidth.{LaneWidth}
 use Rattle.record.specs.declared.LaneWidth.TheVariants.{Half, Byte}
 use Rattle.record.specs.declared.Selector.{Selector}
-use Rattle.names.specs.declared.Opcode
 use Rattle.names.specs.declared.Opcode.{Opcode}
-use Rattle.names.specs.declared.OpcodeName
 use Rattle.names.specs.declared.OpcodeName.{OpcodeName}
-use Rattle.names.specs.declared.VideoName
 use Rattle.names.specs.declared.VideoName.{VideoName}
-use Rattle.names.specs.declared.SetName
 use Rattle.names.specs.declared.SetName.{SetName}
-use Rattle.names.specs.declared.TypeName
 use Rattle.names.specs.declared.TypeName.{TypeName}
-use Rattle.names.specs.declared.SixName
 use Rattle.names.specs.declared.SixName.{SixName}
-use Rattle.names.specs.declared.CmpName
 use Rattle.names.specs.declared.CmpName.{CmpName}
-use Rattle.names.specs.declared.BoolName
 use Rattle.names.specs.declared.BoolName.{BoolName}
-use Rattle.names.specs.declared.Op2Name
 use Rattle.names.specs.declared.Op2Name.{Op2Name}
-use Rattle.names.specs.declared.SelectorName
 use Rattle.names.specs.declared.SelectorName.{SelectorName}
 
 -- ==== any choice

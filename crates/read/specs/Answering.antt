@@ -11,7 +11,7 @@ use Rattle.rules.specs.Strict.{passes, Readable}
 use Rattle.rules.specs.Grammar.{LineTree, Shaped}
 use Rattle.signs.specs.Lists.{Listed}
 use Rattle.signs.specs.Lists.Listed.{here, later}
-use Rattle.rules.specs.Reading.{Spells, Relates, line_limit, Applies, too_long, shapeless, unknown, rowless, unfit, outside, equal, too_old, against_itself_lem, reading_order, FirstOf, this, next, Placed, at_byte, at_opcode, at_modifier, at_guard, at_operand, at_register, at_second, placeless, Answer, read, refused, refused_at, Answers, accepts, refuses, refuses_at}
+use Rattle.rules.specs.Reading.{Spells, Relates, line_limit, Applies, too_long, shapeless, unknown, rowless, unfit, outside, equal, too_old, against_self, reading_order, FirstOf, this, next, Placed, at_byte, at_opcode, at_modifier, at_guard, at_operand, at_register, at_second, placeless, Answer, read, refused, refused_at, Answers, accepts, refuses, refuses_at}
 use Rattle.laws.specs.PlaceLaws.{off, legal_parts, inside_spelled, outside_spelled, outside_listed, apart_spelled, equal_spelled}
 use Rattle.heads.specs.Sound.{row_listed}
 use Rattle.read.specs.Refuses.{Refuses, over_160, no_shape, no_opcode, no_row, no_fit, out_of_file, same_pair, old_target, same_part, Decides, decides_read, decides_refused}
@@ -36,7 +36,7 @@ applies target mode l n (no_row h t s o k) = rowless t s k
 applies target mode l n (no_fit h t s i r k) = unfit t s i r k
 applies target mode l n (out_of_file h t s m f e) = let o = outside_spelled t m f.spells e in let q = outside_listed o.1 in outside t s o.0 q.0 q.1 q.2
 applies target mode l n (old_target m r h a) = too_old m r a
-applies target mode l n (same_part m r h b) = against_itself_lem m r b
+applies target mode l n (same_part m r h b) = against_self m r b
 applies target mode l n (same_pair h t s m f e k) = let q = equal_spelled t m f.spells k in equal t s q.0 q.1
 
 -- ==== no earlier one applies
@@ -71,7 +71,7 @@ module _ (target : Target) (mode : Mode) (l : List ℕ) where
   no_12 m r e (too_old k q a) = off (sym (ap (allows target) (one_record l k m q r) ∙ e) ∙ a)
 
   no_15 : (m : Record) → Relates l m → passes mode m ≡ true → Applies target mode l 15 → ⊥
-  no_15 m r e (against_itself_lem k q b) = off (sym (ap (passes mode) (one_record l k m q r) ∙ e) ∙ b)
+  no_15 m r e (against_self k q b) = off (sym (ap (passes mode) (one_record l k m q r) ∙ e) ∙ b)
 
   -- a line that spells a legal record has none of 1 to 7
   past_7 : (n : ℕ) → 7 < n → Refuses target mode l n → (m : Record) → Relates l m → Legal m → FirstOf target mode l n (12 ∷ 15 ∷ []) → FirstOf target mode l n reading_order
@@ -112,7 +112,7 @@ module _ (target : Target) (mode : Mode) (l : List ℕ) where
       next (no_1 h)
       (next (no_2 t s) (next (no_3 h a) (next (no_4 h a b) (next (no_5 h c) (next (no_6 h t s m f.spells e) (this (applies target mode l 7 r)))))))
   first_of n (old_target m q h o) = past_7 12 (omega arith) (old_target m q h o) m q h (this (too_old m q o))
-  first_of n (same_part m q h b) = past_7 15 (omega arith) (same_part m q h b) m q h.legal (next (no_12 m q h.allowed) (this (against_itself_lem m q b)))
+  first_of n (same_part m q h b) = past_7 15 (omega arith) (same_part m q h b) m q h.legal (next (no_12 m q h.allowed) (this (against_self m q b)))
 
 -- ==== an accepted line
 
@@ -129,7 +129,7 @@ accepted_none target mode l m r h n (unfit t s i w z) =
     z m (record { spells = spelled_by_all l r.short r.tree t r.shaped s m r.spells; modifiers = k.0; operands = k.1 })
 accepted_none target mode l m r h n (outside t s k q a b) = no_6 target mode l r.short r.tree r.shaped m r.spells (legal_parts m h.allowed.legal).2 (outside t s k q a b)
 accepted_none target mode l m r h n (too_old k q a) = no_12 target mode l m r h.allowed.allowed (too_old k q a)
-accepted_none target mode l m r h n (against_itself_lem k q b) = no_15 target mode l m r h.passed (against_itself_lem k q b)
+accepted_none target mode l m r h n (against_self k q b) = no_15 target mode l m r h.passed (against_self k q b)
 accepted_none target mode l m r h n (equal t s k a) = no_7 target mode l r.short r.tree r.shaped m r.spells (legal_parts m h.allowed.legal).3 (equal t s k a)
 
 -- ==== the place
@@ -163,6 +163,7 @@ between l n p (at_second t s q e) = (omega arith, omega arith)
 pub placeless_unplaced : (l : List ℕ) (n p : ℕ) → Listed n placeless → Placed l n p → ⊥
 placeless_unplaced l n p (here e) x = let k = between l n p x in omega arith
 placeless_unplaced l n p (later (here e)) x = let k = between l n p x in omega arith
+placeless_unplaced l n p (later (later (later x22))) x = elim x22 [ ]
 placeless_unplaced l n p (later (later (here e))) x = let k = between l n p x in omega arith
 
 -- a line that gets another is not too long
@@ -208,6 +209,7 @@ answers target mode l = answers_by target mode l (verdict_of target mode l) refl
 
 -- one number is the first
 first_one : (target : Target) (mode : Mode) (l : List ℕ) (n k : ℕ) (ns : List ℕ) → FirstOf target mode l n ns → FirstOf target mode l k ns → n ≡ k
+first_one target mode l n k [] x'' _ = elim x'' [ ]
 first_one target mode l n k (x ∷ ns) (this a) (this b) = refl
 first_one target mode l n k (x ∷ ns) (this a) (next b q) = absurd (b a)
 first_one target mode l n k (x ∷ ns) (next a p) (this b) = absurd (a b)
@@ -215,6 +217,7 @@ first_one target mode l n k (x ∷ ns) (next a p) (next b q) = first_one target 
 
 -- the first of a list applies
 pub first_applies : (target : Target) (mode : Mode) (l : List ℕ) (n : ℕ) (ns : List ℕ) → FirstOf target mode l n ns → Applies target mode l n
+first_applies target mode l n [] x' = elim x' [ ]
 first_applies target mode l n (x ∷ ns) (this a) = a
 first_applies target mode l n (x ∷ ns) (next a p) = first_applies target mode l n ns p
 

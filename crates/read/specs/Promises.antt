@@ -47,6 +47,7 @@ pub accepted_none_applies : (target : Target) (mode : Mode) (l : List ℕ) (m : 
 accepted_none_applies target mode l m (accepts k r h) n e = accepted_none target mode l m r h n e
 
 first_listed : (target : Target) (mode : Mode) (l : List ℕ) (n : ℕ) (ns : List ℕ) → FirstOf target mode l n ns → Listed n ns
+first_listed target mode l n mathlib.Core.List.[] x' = elim x' [ ]
 first_listed target mode l n (k ∷ ns) (this a) = here refl
 first_listed target mode l n (k ∷ ns) (next z f) = later (first_listed target mode l n ns f)
 
@@ -67,6 +68,7 @@ pub data Refusal : Answer → ℕ → Type 0 where
 
 -- a line that is refused is related to no legal record that the target allows and the mode passes, and one that is related to none is refused
 pub refused_unrelated : (target : Target) (mode : Mode) (l : List ℕ) (a : Answer) (n : ℕ) (m : Record) → Answers target mode l a → Refusal a n → Relates l m → Readable target mode m → ⊥
+refused_unrelated target mode l _ n m (accepts _ _ _) x11 q k = elim x11 [ ]
 refused_unrelated target mode l a n m (refuses f i) plain q k = accepted_none target mode l m q k n (first_applies target mode l n reading_order f)
 refused_unrelated target mode l a n m (refuses_at f i) placed q k = accepted_none target mode l m q k n (first_applies target mode l n reading_order f)
 

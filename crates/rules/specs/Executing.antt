@@ -17,7 +17,6 @@ use Rattle.record.specs.declared.Selected.TheVariants.{Whole, Part}
 use Rattle.record.specs.declared.Form.{Form}
 use Rattle.record.specs.declared.Form.TheVariants.{Plain, Merge, Combine}
 use Rattle.record.specs.declared.Scalar.{Scalar}
-use Rattle.record.specs.declared.Operand
 use Rattle.record.specs.declared.Operand.{Operand}
 use Rattle.record.specs.declared.Comparison.{Comparison}
 use Rattle.record.specs.declared.Destination.{Destination}

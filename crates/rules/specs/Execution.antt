@@ -11,14 +11,12 @@ use Rattle.record.specs.declared.LaneWidth.{LaneWidth}
 use Rattle.record.specs.declared.LaneWidth.TheVariants.{Half, Byte}
 use Rattle.record.specs.declared.Selector.{Selector}
 use Rattle.record.specs.declared.Selector.TheVariants.{B0, B1, B2, B3, H0, H1}
-use Rattle.record.specs.declared.Selected
 use Rattle.record.specs.declared.Selected.{Selected}
 use Rattle.record.specs.declared.Form.{Form}
 use Rattle.record.specs.declared.Form.TheVariants.{Plain, Merge, Combine}
 use Rattle.record.specs.declared.Scalar.{Scalar}
 use Rattle.record.specs.declared.Arith.{Arith}
 use Rattle.record.specs.declared.Arith.TheVariants.{Vadd, Vsub, Vabsdiff, Vmin, Vmax}
-use Rattle.record.specs.declared.LaneArith
 use Rattle.record.specs.declared.LaneArith.{LaneArith}
 use Rattle.record.specs.declared.Op2.{Op2}
 use Rattle.record.specs.declared.Op2.TheVariants.{Add, Min, Max}
@@ -29,15 +27,12 @@ use Rattle.record.specs.declared.Cmp6.{Cmp6}
 use Rattle.record.specs.declared.Cmp6.TheVariants.{Eq, Ne, Lt, Le, Gt, Ge}
 use Rattle.record.specs.declared.CmpU.TheVariants.{Lo, Ls, Hi, Hs}
 use Rattle.record.specs.declared.CmpF.TheVariants.{Equ, Neu, Ltu, Leu, Gtu, Geu, Num, Nan}
-use Rattle.record.specs.declared.CmpOp
 use Rattle.record.specs.declared.CmpOp.{CmpOp}
 use Rattle.record.specs.declared.DataType.{DataType}
 use Rattle.record.specs.declared.DataType.TheVariants.{B16, B32, B64, U16, U32, U64, S16, S32, S64, F32, F64}
 use Rattle.record.specs.declared.BoolOp.{BoolOp}
 use Rattle.record.specs.declared.BoolOp.TheVariants.{And, Or, Xor}
-use Rattle.record.specs.declared.SetType
 use Rattle.record.specs.declared.SetType.{SetType}
-use Rattle.record.specs.declared.SlctType
 use Rattle.record.specs.declared.SlctType.{SlctType}
 use Rattle.rules.specs.Numbers.{word_size, half_size, double_size, lane_size, lanes, part_at, joined, exact_of, is_signed, low_of, min_z, max_z, bit, holds_z}
 

@@ -114,7 +114,7 @@ pub data Applies (target : Target) (mode : Mode) (l : List ℕ) : ℕ → Type 0
   -- T-07: target too old for the record that the line spells
   too_old : (m : Record) → Relates l m → allows target m ≡ false → Applies target mode l 12
   -- T-09: in strict reading, a masked lane's two selectors pick the same part of the same register
-  against_itself_lem : (m : Record) → Relates l m → passes mode m ≡ false → Applies target mode l 15
+  against_self : (m : Record) → Relates l m → passes mode m ≡ false → Applies target mode l 15
 
 -- Reading: 1 to 7, T-07: 12 after 7, T-09: 15 after 12,
 abbrev pub reading_order : List ℕ

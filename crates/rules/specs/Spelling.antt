@@ -21,7 +21,7 @@ use Rattle.record.specs.declared.Destination.{Destination}
 use Rattle.record.specs.declared.Destination.TheVariants.{One, Pair, First, Second}
 use Rattle.record.specs.declared.Instruction.{Instruction}
 use Rattle.record.specs.declared.Instruction.TheVariants.{Arithmetic, Vset, VsetLanes, ArithmeticLanes, Set, Setp, Selp, Slct}
-use Rattle.record.specs.Registers.{Place, pred, r, p, operand_place}
+use Rattle.record.specs.Registers.{Place, r, p, operand_place}
 use Rattle.rules.specs.Shape.{at, nothing, OperandTree, inverted, pair, bare, part}
 use Rattle.rules.specs.Names.{selector_name, mask_name, digits_name}
 

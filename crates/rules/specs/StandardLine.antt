@@ -4,8 +4,8 @@ use Rattle.signs.specs.Text.{bytes}
 use Rattle.record.specs.declared.Guard.{Guard}
 use Rattle.record.specs.declared.Guard.TheVariants.{Always, When}
 use Rattle.record.specs.declared.Record.{Record}
-use Rattle.record.specs.Registers.{pred, p}
-use Rattle.rules.specs.Shape.{head_text, OperandTree, inverted, operand_text, guard_text}
+use Rattle.record.specs.Registers.{p}
+use Rattle.rules.specs.Shape.{head_text, OperandTree, operand_text, guard_text}
 use Rattle.rules.specs.Spelling.{operand_trees}
 use Rattle.rules.specs.Names.{head_names}
 

@@ -104,11 +104,11 @@ shape_complete t good m = (ap (λ (s : Scanned). s.good) whole, ap (λ (s : Scan
     from_first : List ℕ
     from_first = operand ++ (others ++ end)
 
-    from_gap_lem : List ℕ
-    from_gap_lem = t.gap ++ from_first
+    text_from_gap : List ℕ
+    text_from_gap = t.gap ++ from_first
 
-    from_head_lem : List ℕ
-    from_head_lem = head ++ from_gap_lem
+    text_from_head : List ℕ
+    text_from_head = head ++ text_from_gap
 
     n : ℕ
     n = length operand + length others + (length t.ending + 1)
@@ -119,8 +119,8 @@ shape_complete t good m = (ap (λ (s : Scanned). s.good) whole, ap (λ (s : Scan
     small : length t.before + length guard + length head + length t.gap + length operand + length others + length t.ending + 1 + length t.behind ≤ 160
     small = omega (arith, line_length t.before guard head t.gap operand others t.ending t.behind)
 
-    first_byte : is_name_byte (get_or from_head_lem 0 0) ≡ true
-    first_byte = ap (λ (l : List ℕ). is_name_byte (get_or l 0 0)) (append_assoc t.opcode (dotted t.modifiers) from_gap_lem) ∙ name_first good.opcode (dotted t.modifiers ++ from_gap_lem)
+    first_byte : is_name_byte (get_or text_from_head 0 0) ≡ true
+    first_byte = ap (λ (l : List ℕ). is_name_byte (get_or l 0 0)) (append_assoc t.opcode (dotted t.modifiers) text_from_gap) ∙ name_first good.opcode (dotted t.modifiers ++ text_from_gap)
 
     p1 : ℕ
     p1 = capped_sum (length t.before) (length guard)
@@ -137,12 +137,12 @@ shape_complete t good m = (ap (λ (s : Scanned). s.good) whole, ap (λ (s : Scan
     whole : shape_of (line_text t) ≡ record { good = true; place = capped_sum place (length t.behind); parts = seen t }
     whole =
         ap shape_of (line_joined t.before guard head t.gap operand others t.ending t.behind)
-        ∙ after_before t.before (guard ++ from_head_lem) good.before (guard_first t.guard from_head_lem first_byte)
-        ∙ after_guard (length t.before) g guard from_head_lem (guard_complete t.guard from_head_lem good.guard first_byte (omega (arith, small)))
-        ∙ after_head p1 g from_head_lem (length head) h
-        (head_complete t.opcode t.modifiers from_gap_lem good.opcode good.modifiers (blank_first (λ (b : ℕ). is_name_byte b ≡ false) refl refl good.gap from_first)
+        ∙ after_before t.before (guard ++ text_from_head) good.before (guard_first t.guard text_from_head first_byte)
+        ∙ after_guard (length t.before) g guard text_from_head (guard_complete t.guard text_from_head good.guard first_byte (omega (arith, small)))
+        ∙ after_head p1 g text_from_head (length head) h
+        (head_complete t.opcode t.modifiers text_from_gap good.opcode good.modifiers (blank_first (λ (b : ℕ). is_name_byte b ≡ false) refl refl good.gap from_first)
         (blank_first (λ (b : ℕ). eqb b 46 ≡ false) refl refl good.gap from_first) (omega (arith, small)))
-        ∙ ap (from_gap p2 g h) (drop-append_seam head from_gap_lem)
+        ∙ ap (from_gap p2 g h) (drop-append_seam head text_from_gap)
         ∙ after_gap p2 g h t.gap from_first good.gap (operand_first t.first (others ++ end))
         ∙ after_operands (capped_sum p2 (length t.gap)) g h from_first n (seen_operands (operands_of t))
         (operands_complete t.first t.others t.ending t.behind good.first good.others good.ending (omega (arith, small)))

@@ -190,10 +190,10 @@ line_from a b r x i =
     let j = i.rest in
     let k = j.rest in
     let l = k.rest in
-    let from_gap_lem : List ℕ = k.gap ++ (operand_text l.first ++ (divided_text l.others ++ (l.ending ++ (59 ∷ l.behind)))) in
-    let gap_is : j.tail ≡ from_gap_lem = k.whole ∙ ap (λ (y : List ℕ). k.gap ++ y) l.whole in
-    let head-is : i.tail ≡ head_text (j.name ∷ j.others) ++ from_gap_lem = j.whole ∙ ap (λ (y : List ℕ). head_text (j.name ∷ j.others) ++ y) gap_is in
-    let guard_is : a ++ b ≡ a ++ (guard_tree_text i.tree ++ (head_text (j.name ∷ j.others) ++ from_gap_lem)) =
+    let text_from_gap : List ℕ = k.gap ++ (operand_text l.first ++ (divided_text l.others ++ (l.ending ++ (59 ∷ l.behind)))) in
+    let gap_is : j.tail ≡ text_from_gap = k.whole ∙ ap (λ (y : List ℕ). k.gap ++ y) l.whole in
+    let head-is : i.tail ≡ head_text (j.name ∷ j.others) ++ text_from_gap = j.whole ∙ ap (λ (y : List ℕ). head_text (j.name ∷ j.others) ++ y) gap_is in
+    let guard_is : a ++ b ≡ a ++ (guard_tree_text i.tree ++ (head_text (j.name ∷ j.others) ++ text_from_gap)) =
     ap (λ (y : List ℕ). a ++ y) (i.whole ∙ ap (λ (y : List ℕ). guard_tree_text i.tree ++ y) head-is) in
     record {
       tree = record { before = a; guard = i.tree; opcode = j.name; modifiers = j.others; gap = k.gap; first = l.first; others = l.others; ending = l.ending; behind = l.behind };

@@ -161,12 +161,12 @@ between_plain : (t : LineTree) → Good t → All plain (between t)
 unfolding between
 between_plain t g = joined (joined (class_without 37 is_name_byte refl g.opcode.all) (dotted_without 37 refl refl g.modifiers)) (blanks_plain g.gap.all)
 
-operands_of_lem : LineTree → List ℕ
-operands_of_lem t = operand_text t.first ++ (divided_text t.others ++ (t.ending ++ (59 ∷ t.behind)))
+operands_of : LineTree → List ℕ
+operands_of t = operand_text t.first ++ (divided_text t.others ++ (t.ending ++ (59 ∷ t.behind)))
 
 guarded_finds : (t : LineTree) (s : List ℕ) (x : rules.Place) (b : List ℕ) → All plain s → GoodPlace x → Some is_blank b → Good t
-    → Finds (t.before ++ (s ++ (register_text x ++ (b ++ (between t ++ operands_of_lem t))))) ((length t.before + length s, x) ∷ after (length t.before + (length s + length (register_text x) + length b) + length (between t)) (operands_registers t.first t.others))
-unfolding operands_of_lem
+    → Finds (t.before ++ (s ++ (register_text x ++ (b ++ (between t ++ operands_of t))))) ((length t.before + length s, x) ∷ after (length t.before + (length s + length (register_text x) + length b) + length (between t)) (operands_registers t.first t.others))
+unfolding operands_of
 guarded_finds t s x b h i j g =
     let a = t.before ++ s in
     let rs = operands_registers t.first t.others in
@@ -174,21 +174,21 @@ guarded_finds t s x b h i j g =
     let v = b ++ between t in
     let d : length v ≡ length b + length (between t) = length-append b (between t) in
     let l = length (register_text x) in
-    let w = operands_of_lem t in
+    let w = operands_of t in
     let z : Stops is_digit (v ++ w) = subst (Stops is_digit) (sym (append_assoc b (between t) w)) (blank_first (λ (y : ℕ). is_digit y ≡ false) refl refl j (between t ++ w)) in
     same (simp append_assoc)
     (ap₂ (λ (k : ℕ) (m : List Register). (k, x) ∷ m) (omega arith) (ap (after (length a)) (after_after l (length v) rs) ∙ after_after (length a) (l + length v) rs ∙ ap (λ (k : ℕ). after k rs) (omega arith)))
     (plain_then (register_text x ++ (v ++ w)) ((0, x) ∷ after l (after (length v) rs)) (joined (blanks_plain g.before) h)
     (register_then x (v ++ w) (after (length v) rs) i z (plain_then w rs (joined (blanks_plain j.all) (between_plain t g)) (list_finds t.first t.others t.ending t.behind g.first g.others g.ending))))
 
-by_guard : (t : LineTree) (y : GuardTree) → t.guard ≡ y → Good t → GoodGuard y → Finds (t.before ++ (guard_tree_text y ++ (between t ++ operands_of_lem t)))
+by_guard : (t : LineTree) (y : GuardTree) → t.guard ≡ y → Good t → GoodGuard y → Finds (t.before ++ (guard_tree_text y ++ (between t ++ operands_of t)))
     (after (length t.before) (guard_registers y) ++ after (length t.before + length (guard_tree_text y) + length (between t)) (operands_registers t.first t.others))
-unfolding operands_of_lem
+unfolding operands_of
 by_guard t unguarded e g h =
     let a = t.before ++ between t in
     let rs = operands_registers t.first t.others in
-    same (append_assoc t.before (between t) (operands_of_lem t)) (ap (λ (k : ℕ). after k rs) (length-append t.before (between t) ∙ omega arith))
-    (plain_then (operands_of_lem t) rs (joined (blanks_plain g.before) (between_plain t g)) (list_finds t.first t.others t.ending t.behind g.first g.others g.ending))
+    same (append_assoc t.before (between t) (operands_of t)) (ap (λ (k : ℕ). after k rs) (length-append t.before (between t) ∙ omega arith))
+    (plain_then (operands_of t) rs (joined (blanks_plain g.before) (between_plain t g)) (list_finds t.first t.others t.ending t.behind g.first g.others g.ending))
 by_guard t (guarded true x b) e g h =
     let rs = operands_registers t.first t.others in
     let n : length (register_text x ++ b) ≡ length (register_text x) + length b = length-append (register_text x) b in
@@ -200,7 +200,7 @@ by_guard t (guarded false x b) e g h =
 
 -- the first register over its file is where the code stops
 pub first_over_is : (t : LineTree) → Good t → (q : ℕ) → FirstOutside (registers_of t) q → over_at 0 (line_text t) ≡ q
-unfolding between operands_of_lem
+unfolding between operands_of
 first_over_is t g q o =
     let rs = operands_registers t.first t.others in
     let n : length (between t) ≡ length (head_text (names_of t)) + length t.gap = length-append (head_text (names_of t)) t.gap in

@@ -22,29 +22,29 @@ use Rattle.starts.specs.Starts.{guard_end, head_at, name_from, name_done, name_s
 
 -- ==== the head
 
-from_head_lem : LineTree → List ℕ
-from_head_lem t = head_text (names_of t) ++ (t.gap ++ (operand_text t.first ++ (divided_text t.others ++ (t.ending ++ (59 ∷ t.behind)))))
+from_head : LineTree → List ℕ
+from_head t = head_text (names_of t) ++ (t.gap ++ (operand_text t.first ++ (divided_text t.others ++ (t.ending ++ (59 ∷ t.behind)))))
 
-line_at : (t : LineTree) → line_text t ≡ t.before ++ (guard_tree_text t.guard ++ from_head_lem t)
-unfolding from_head_lem
+line_at : (t : LineTree) → line_text t ≡ t.before ++ (guard_tree_text t.guard ++ from_head t)
+unfolding from_head
 line_at t = line_joined t.before (guard_tree_text t.guard) (head_text (names_of t)) t.gap (operand_text t.first) (divided_text t.others) t.ending t.behind
 
-opcode_byte : (t : LineTree) → Good t → is_name_byte (get_or (from_head_lem t) 0 0) ≡ true
-unfolding from_head_lem
+opcode_byte : (t : LineTree) → Good t → is_name_byte (get_or (from_head t) 0 0) ≡ true
+unfolding from_head
 opcode_byte t g = ap (λ (l : List ℕ). is_name_byte (get_or l 0 0)) (append_assoc t.opcode (dotted t.modifiers) _) ∙ name_first g.opcode _
 
 -- the guard, or the head if there is none
 pub before_is : (t : LineTree) → Good t → run_length is_blank (line_text t) ≡ guard_start t
 before_is t g =
-    let r = guard_tree_text t.guard ++ from_head_lem t in
-    ap (run_length is_blank) (line_at t) ∙ run_all_lem is_blank r g.before (guard_first t.guard (from_head_lem t) (opcode_byte t g))
+    let r = guard_tree_text t.guard ++ from_head t in
+    ap (run_length is_blank) (line_at t) ∙ run_all_lem is_blank r g.before (guard_first t.guard (from_head t) (opcode_byte t g))
 
 pub head_at_is : (t : LineTree) → Good t → length (line_text t) ≤ 160 → head_at (line_text t) ≡ head_start t
 unfolding head_at guard_end
 head_at_is t g m =
     let a = t.before in
     let b = guard_tree_text t.guard in
-    let r = from_head_lem t in
+    let r = from_head t in
     let n : length (line_text t) ≡ length a + (length b + length r) = ap length (line_at t) ∙ length-append a (b ++ r) ∙ ap (λ (k : ℕ). length a + k) (length-append b r) in
     rw (line_at t, run_all_lem is_blank (b ++ r) g.before (guard_first t.guard r (opcode_byte t g)), drop-append_seam a (b ++ r), guard_complete t.guard r g.guard (opcode_byte t g) (omega arith))
     (sum_is (length a) (length b) (omega arith))
@@ -78,11 +78,11 @@ name_from_is p n (o ∷ os) r (suc k) g (GoodNames.more h hs) z e m =
 
 -- the k-th name of a line's head, or the end of the head
 pub name_start_is : (t : LineTree) (k : ℕ) → Good t → length (line_text t) ≤ 160 → name_from 0 k (drop (head_at (line_text t)) (line_text t)) ≡ name_start (names_of t) k
-unfolding from_head_lem
+unfolding from_head
 name_start_is t k g m =
     let a = t.before in
     let b = guard_tree_text t.guard in
-    let r = from_head_lem t in
+    let r = from_head t in
     let w : List ℕ = operand_text t.first ++ (divided_text t.others ++ (t.ending ++ (59 ∷ t.behind))) in
     let n : length (line_text t) ≡ length (a ++ b) + length r = ap length (line_at t) ∙ sym (ap length (append_assoc a b r)) ∙ length-append (a ++ b) r in
     let h : head_at (line_text t) ≡ length (a ++ b) = head_at_is t g m ∙ sym (length-append a b) in
@@ -145,31 +145,31 @@ name_end n (o ∷ os) (suc k) h =
     let i = name_end o os k (omega arith) in
     omega (arith, length-append n (bytes "."), length-append n (46 ∷ head_text (o ∷ os)))
 
-from_operands_lem : LineTree → List ℕ
-from_operands_lem t = operand_text t.first ++ (divided_text t.others ++ (t.ending ++ (59 ∷ t.behind)))
+from_operands : LineTree → List ℕ
+from_operands t = operand_text t.first ++ (divided_text t.others ++ (t.ending ++ (59 ∷ t.behind)))
 
 -- the lengths of a line's parts
-line_size : (t : LineTree) → length (line_text t) ≡ head_start t + (length (head_text (names_of t)) + (length t.gap + length (from_operands_lem t)))
-unfolding from_head_lem from_operands_lem
+line_size : (t : LineTree) → length (line_text t) ≡ head_start t + (length (head_text (names_of t)) + (length t.gap + length (from_operands t)))
+unfolding from_head from_operands
 line_size t =
     let a = t.before in
     let b = guard_tree_text t.guard in
-    let r = from_head_lem t in
+    let r = from_head t in
     ap length (line_at t) ∙ length-append a (b ++ r)
-    ∙ omega (arith, length-append b r, length-append (head_text (names_of t)) (t.gap ++ from_operands_lem t), length-append t.gap (from_operands_lem t))
+    ∙ omega (arith, length-append b r, length-append (head_text (names_of t)) (t.gap ++ from_operands t), length-append t.gap (from_operands t))
 
 -- the line from the head on
-head_rest : (t : LineTree) → Good t → length (line_text t) ≤ 160 → drop (head_at (line_text t)) (line_text t) ≡ head_text (names_of t) ++ (t.gap ++ from_operands_lem t)
-unfolding from_head_lem from_operands_lem
+head_rest : (t : LineTree) → Good t → length (line_text t) ≤ 160 → drop (head_at (line_text t)) (line_text t) ≡ head_text (names_of t) ++ (t.gap ++ from_operands t)
+unfolding from_head from_operands
 head_rest t g m =
     let a = t.before in
     let b = guard_tree_text t.guard in
-    let r = from_head_lem t in
+    let r = from_head t in
     let h : head_at (line_text t) ≡ length (a ++ b) = head_at_is t g m ∙ sym (length-append a b) in
     ap (λ (i : ℕ). drop i (line_text t)) h ∙ ap (drop (length (a ++ b))) (line_at t ∙ sym (append_assoc a b r)) ∙ drop-append_seam (a ++ b) r
 
 pub operands_at_is : (t : LineTree) → Good t → length (line_text t) ≤ 160 → operands_at (line_text t) ≡ operands_start t
-unfolding operands_at from_operands_lem
+unfolding operands_at from_operands
 operands_at_is t g m =
     let l = line_text t in
     let s = head_text (names_of t) in
@@ -177,28 +177,28 @@ operands_at_is t g m =
     let c : length s ≡ length t.opcode + length (dotted t.modifiers) = length-append t.opcode (dotted t.modifiers) in
     let f : length t.modifiers < 160 = omega (arith, few_names t.modifiers, g.opcode.some, line_size t) in
     let e : name_from 0 160 (drop (head_at l) l) ≡ n = name_start_is t 160 g m ∙ name_end t.opcode t.modifiers 160 f in
-    let b : run_length is_blank (t.gap ++ from_operands_lem t) ≡ length t.gap = run_all_lem is_blank (from_operands_lem t) g.gap.all (operand_first t.first (divided_text t.others ++ (t.ending ++ (59 ∷ t.behind)))) in
+    let b : run_length is_blank (t.gap ++ from_operands t) ≡ length t.gap = run_all_lem is_blank (from_operands t) g.gap.all (operand_first t.first (divided_text t.others ++ (t.ending ++ (59 ∷ t.behind)))) in
     ap (λ (i : ℕ). capped_sum (capped_sum (head_at l) i) (run_length is_blank (drop i (drop (head_at l) l)))) e
     ∙ ap (λ (v : List ℕ). capped_sum (capped_sum (head_at l) n) (run_length is_blank (drop n v))) (head_rest t g m)
-    ∙ ap (λ (v : List ℕ). capped_sum (capped_sum (head_at l) n) (run_length is_blank v)) (drop-append_seam s (t.gap ++ from_operands_lem t))
+    ∙ ap (λ (v : List ℕ). capped_sum (capped_sum (head_at l) n) (run_length is_blank v)) (drop-append_seam s (t.gap ++ from_operands t))
     ∙ ap (capped_sum (capped_sum (head_at l) n)) b
     ∙ ap (λ (h : ℕ). capped_sum (capped_sum h n) (length t.gap)) (head_at_is t g m)
     ∙ ap (λ (h : ℕ). capped_sum h (length t.gap)) (sum_is (head_start t) n (omega (arith, line_size t)))
     ∙ sum_is (head_start t + n) (length t.gap) (omega (arith, line_size t))
 
-operands_rest : (t : LineTree) → drop (operands_start t) (line_text t) ≡ from_operands_lem t
-unfolding from_operands_lem
+operands_rest : (t : LineTree) → drop (operands_start t) (line_text t) ≡ from_operands t
+unfolding from_operands
 operands_rest t =
     let v : List ℕ = t.before ++ guard_tree_text t.guard ++ head_text (names_of t) ++ t.gap in
-    let u : line_text t ≡ v ++ from_operands_lem t = simp append_assoc in
+    let u : line_text t ≡ v ++ from_operands t = simp append_assoc in
     let y : length v ≡ operands_start t = simp length-append (omega arith) in
-    ap (drop (operands_start t)) u ∙ drop_at v (from_operands_lem t) (operands_start t) y
+    ap (drop (operands_start t)) u ∙ drop_at v (from_operands t) (operands_start t) y
 
 -- the k-th operand of a line, or the end of the last
 pub operand_start_is : (t : LineTree) (k : ℕ) → Good t → length (line_text t) ≤ 160 → operand_from 0 k (drop (operands_at (line_text t)) (line_text t)) ≡ operand_start t.first t.others k
-unfolding from_operands_lem
+unfolding from_operands
 operand_start_is t k g m =
-    let s : length (from_operands_lem t) ≡ length (operand_text t.first) + (length (divided_text t.others) + (length t.ending + suc (length t.behind))) =
+    let s : length (from_operands t) ≡ length (operand_text t.first) + (length (divided_text t.others) + (length t.ending + suc (length t.behind))) =
     length-append (operand_text t.first) (divided_text t.others ++ (t.ending ++ (59 ∷ t.behind)))
     ∙ ap (λ (n : ℕ). length (operand_text t.first) + n) (length-append (divided_text t.others) (t.ending ++ (59 ∷ t.behind)) ∙ ap (λ (n : ℕ). length (divided_text t.others) + n) (length-append t.ending (59 ∷ t.behind))) in
     ap (λ (i : ℕ). operand_from 0 k (drop i (line_text t))) (operands_at_is t g m)
@@ -224,7 +224,7 @@ guard_bars (guarded true p b) g = joined (more refl (more refl (register_bars p)
 guard_bars (guarded false p b) g = joined (more refl (register_bars p)) (class_without 124 is_blank refl g.1.all)
 
 pub second_start_is : (t : LineTree) (a b : Spot) → Good t → length (line_text t) ≤ 160 → t.first ≡ pair a b → bar_at (line_text t) ≡ operands_start t + length (spot_text a ++ bytes "|")
-unfolding bar_at from_operands_lem
+unfolding bar_at from_operands
 second_start_is t a b g m e =
     let v : List ℕ = t.before ++ guard_tree_text t.guard ++ head_text (names_of t) ++ t.gap ++ spot_text a in
     let r : List ℕ = spot_text b ++ (divided_text t.others ++ (t.ending ++ (59 ∷ t.behind))) in
@@ -261,7 +261,7 @@ first_within o [] = omega arith
 first_within o (d ∷ ds) = simp length-append (omega arith)
 
 pub operand_start_within : (t : LineTree) (k : ℕ) → operands_start t + operand_start t.first t.others k ≤ length (line_text t)
-unfolding from_operands_lem
+unfolding from_operands
 operand_start_within t k =
     let h = operand_within t.first t.others k in
     omega (arith, line_size t, length-append (operand_text t.first) (divided_text t.others ++ (t.ending ++ (59 ∷ t.behind))), length-append (divided_text t.others) (t.ending ++ (59 ∷ t.behind)))

@@ -4,7 +4,6 @@ use Rattle.record.specs.Operands.{full_mask, default_a, default_b}
 use Rattle.record.specs.declared.Word.{Word}
 use Rattle.record.specs.declared.Pred.{Pred}
 use Rattle.record.specs.declared.Condition.{Condition}
-use Rattle.record.specs.declared.Operand
 use Rattle.record.specs.declared.Operand.{Operand}
 use Rattle.record.specs.declared.Selected.TheVariants.{Whole}
 use Rattle.record.specs.declared.Form.{Form}

@@ -4,9 +4,9 @@ use Rattle.scan.proofs.numbered.Goals as goal
 pub returns-in-Got : goal.returns-in-Got
 unfolding register_from
 returns-in-Got c = simp (
-      c.place_in.ensures,
-      c.in-Got.is,
-    )
+  c.place_in.ensures,
+  c.in-Got.is,
+)
 
 pub returns-in-Bad : goal.returns-in-Bad
 unfolding register_from

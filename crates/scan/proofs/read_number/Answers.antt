@@ -4,12 +4,12 @@ use Rattle.scan.proofs.read_number.Goals as goal
 pub returns : goal.returns
 unfolding number_found
 returns c = simp (
-      c.number_by.ensures,
-      c.digit-c.ensures,
-      c.byte-3.ensures,
-      c.digit-b.ensures,
-      c.byte-2.ensures,
-      c.digit-a.ensures,
-      c.byte.ensures,
-      c.run_len-n.ensures,
-    )
+  c.number_by.ensures,
+  c.digit-c.ensures,
+  c.byte-3.ensures,
+  c.digit-b.ensures,
+  c.byte-2.ensures,
+  c.digit-a.ensures,
+  c.byte.ensures,
+  c.run_len-n.ensures,
+)

@@ -10,8 +10,8 @@ returns-in-Not c =
 pub returns-in-Of : goal.returns-in-Of
 unfolding register_by
 returns-in-Of c = simp (
-      c.numbered.ensures,
-      c.read_number.ensures,
-      c.rest.ensures,
-      c.in-Of.is,
-    )
+  c.numbered.ensures,
+  c.read_number.ensures,
+  c.rest.ensures,
+  c.in-Of.is,
+)

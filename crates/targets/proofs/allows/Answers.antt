@@ -4,7 +4,7 @@ use Rattle.targets.proofs.allows.Goals as goal
 pub returns : goal.returns
 unfolding allows
 returns c = simp (
-      c.generation-2.ensures,
-      c.generation.ensures,
-      c.needs.ensures,
-    )
+  c.generation-2.ensures,
+  c.generation.ensures,
+  c.needs.ensures,
+)
