@@ -16,7 +16,6 @@ use Rattle.record.specs.declared.Cmp6.{Cmp6}
 use Rattle.record.specs.declared.Cmp6.TheVariants.{Eq, Ne, Lt, Le, Gt, Ge}
 use Rattle.record.specs.declared.CmpU.TheVariants.{Lo, Ls, Hi, Hs}
 use Rattle.record.specs.declared.CmpF.TheVariants.{Equ, Neu, Ltu, Leu, Gtu, Geu, Num, Nan}
-use Rattle.record.specs.declared.CmpOp
 use Rattle.record.specs.declared.CmpOp.{CmpOp}
 use Rattle.base.specs.Tests.{leb_not}
 use Rattle.base.specs.Moved.{un, un_high, un_up, un_down, un_lt, un_le, un_eq}

@@ -1,5 +1,5 @@
 -- The code's side of comparison: a whole number is kept moved up by half of its range where its type has a sign. Laws join it to the rules.
-use Rattle.std.specs.Prelude.{ℕ, ◌+◌, ◌-◌, ◌%◌, ◌^◌, Bool, false, not, ◌&&◌, ◌||◌, cond, ltb, eqb, Float}
+use Rattle.std.specs.Prelude.{ℕ, ◌+◌, ◌-◌, ◌%◌, ◌^◌, Bool, false, not, ◌&&◌, ◌||◌, cond, ltb, eqb}
 use Rattle.std.specs.Float.{binary32, binary64}
 use Rattle.std.specs.Float.Ieee.{of_bits}
 use Rattle.record.specs.declared.DataType.{DataType}
@@ -10,7 +10,6 @@ use Rattle.record.specs.declared.CmpU.{CmpU}
 use Rattle.record.specs.declared.CmpU.TheVariants.{Lo, Ls, Hi, Hs}
 use Rattle.record.specs.declared.CmpF.{CmpF}
 use Rattle.record.specs.declared.CmpF.TheVariants.{Equ, Neu, Ltu, Leu, Gtu, Geu, Num, Nan}
-use Rattle.record.specs.declared.CmpOp
 use Rattle.record.specs.declared.CmpOp.{CmpOp}
 use Rattle.rules.specs.Numbers.{word_size, half_size}
 use Rattle.rules.specs.Execution.{flushed, float_holds}

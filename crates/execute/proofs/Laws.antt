@@ -13,7 +13,6 @@ use Rattle.record.specs.declared.Destination.{Destination}
 use Rattle.record.specs.declared.Destination.TheVariants.{One, Pair, First, Second}
 use Rattle.record.specs.declared.Comparison.{Comparison}
 use Rattle.record.specs.declared.Choice.{Choice}
-use Rattle.record.specs.declared.Operand
 use Rattle.record.specs.declared.Operand.{Operand}
 use Rattle.record.specs.declared.Instruction.{Instruction}
 use Rattle.record.specs.declared.Instruction.TheVariants.{Arithmetic, Vset, VsetLanes, ArithmeticLanes, Set, Setp, Selp, Slct}
@@ -25,7 +24,6 @@ use Rattle.rules.specs.Targets.{allows, flushes, slct_type_at}
 use Rattle.rules.specs.Executing.{word_of, pred_of, operand_of, combined_of, test_of, kept, destination_writes, writes, put, put_all, after, sizes_fit, preds_fit, guard_holds, Outcome, done, skipped, refused, outcome, run}
 use Rattle.refusals.specs.Order.{first_executing}
 use Rattle.execute.specs.Mirror.{operand_in, test_in, operand_write, write_of, preds_with, written}
-use Rattle.execute.specs.declared.Write
 use Rattle.execute.specs.declared.Write.{Write}
 
 -- ---- `!` inverts

@@ -14,7 +14,6 @@ use Rattle.record.specs.declared.VideoType.{VideoType}
 use Rattle.record.specs.declared.Word.{Word}
 use Rattle.record.specs.declared.Destination.{Destination}
 use Rattle.record.specs.declared.Destination.TheVariants.{One, Pair, First, Second}
-use Rattle.record.specs.declared.Operand
 use Rattle.record.specs.declared.Operand.{Operand}
 use Rattle.record.specs.declared.Target.{Target}
 use Rattle.record.specs.declared.Instruction.{Instruction}
@@ -25,7 +24,6 @@ use Rattle.record.specs.declared.File.TheVariants.{Words, Halves, Doubles, Preds
 use Rattle.record.specs.Registers.{Files, with_file, reg}
 use Rattle.rules.specs.Targets.{flushes, slct_type_at}
 use Rattle.rules.specs.Executing.{word_of, pred_of, selected_word, form_c, form_d, combined_of, put}
-use Rattle.execute.specs.declared.Write
 use Rattle.execute.specs.declared.Write.{Write}
 
 -- ---- what is read, of the files that an operand can name

@@ -21,7 +21,6 @@ use Rattle.record.specs.declared.LaneArith.{LaneArith}
 use Rattle.record.specs.declared.LaneWidth.{LaneWidth}
 use Rattle.record.specs.declared.Lanes.{Lanes}
 use Rattle.record.specs.declared.Mask.{Mask}
-use Rattle.record.specs.declared.Operand
 use Rattle.record.specs.declared.Operand.{Operand}
 use Rattle.record.specs.declared.Scalar.{Scalar}
 use Rattle.record.specs.declared.Selected.{Selected}
@@ -43,16 +42,6 @@ use Rattle.kinds.specs.Registers.{bare_operand, condition_of, destination_of}
 use Rattle.fills.specs.Fills.{tree_at, selected_from, scalar_from, masked_from, laned_from, lanes_from, comparison_from, choice_from, filled_of}
 use Rattle.names.specs.Back.{selector_complete}
 use Rattle.masks.specs.MaskLaws.{both, mask_complete, digits_complete}
-use Rattle.kinds.specs.declared.OperandFound
-use Rattle.kinds.specs.declared.ConditionFound
-use Rattle.kinds.specs.declared.DestinationFound
-use Rattle.fills.specs.declared.SelectedFound
-use Rattle.fills.specs.declared.ScalarFound
-use Rattle.fills.specs.declared.MaskedFound
-use Rattle.fills.specs.declared.LanedFound
-use Rattle.fills.specs.declared.LanesFound
-use Rattle.fills.specs.declared.ComparisonFound
-use Rattle.fills.specs.declared.ChoiceFound
 use Rattle.kinds.specs.declared.OperandFound.{OperandFound}
 use Rattle.kinds.specs.declared.ConditionFound.{ConditionFound}
 use Rattle.kinds.specs.declared.DestinationFound.{DestinationFound}

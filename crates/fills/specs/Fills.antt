@@ -36,49 +36,29 @@ use Rattle.tree.specs.declared.Tree.TheVariants as tree
 use Rattle.kinds.specs.Registers.{as_word, bare_word, bare_pred, bare_operand, condition_of, destination_of}
 use Rattle.names.specs.Back.{selector_of}
 use Rattle.masks.specs.Masks.{mask_of, digits_named}
-use Rattle.kinds.specs.declared.WordFound
 use Rattle.kinds.specs.declared.WordFound.{WordFound}
-use Rattle.kinds.specs.declared.PredFound
 use Rattle.kinds.specs.declared.PredFound.{PredFound}
-use Rattle.kinds.specs.declared.OperandFound
 use Rattle.kinds.specs.declared.OperandFound.{OperandFound}
-use Rattle.kinds.specs.declared.ConditionFound
 use Rattle.kinds.specs.declared.ConditionFound.{ConditionFound}
-use Rattle.kinds.specs.declared.DestinationFound
 use Rattle.kinds.specs.declared.DestinationFound.{DestinationFound}
-use Rattle.names.specs.declared.SelectorName
 use Rattle.names.specs.declared.SelectorName.{SelectorName}
-use Rattle.masks.specs.declared.MaskFound
 use Rattle.masks.specs.declared.MaskFound.{MaskFound}
-use Rattle.masks.specs.declared.DigitsFound
 use Rattle.masks.specs.declared.DigitsFound.{DigitsFound}
-use Rattle.fills.specs.declared.SelectedFound
 use Rattle.fills.specs.declared.SelectedFound.{SelectedFound}
 use Rattle.fills.specs.declared.Start.{Start}
 use Rattle.fills.specs.declared.Start.TheVariants as start
-use Rattle.fills.specs.declared.StartFound
 use Rattle.fills.specs.declared.StartFound.{StartFound}
-use Rattle.fills.specs.declared.LastFound
 use Rattle.fills.specs.declared.LastFound.{LastFound}
-use Rattle.fills.specs.declared.LastPred
 use Rattle.fills.specs.declared.LastPred.{LastPred}
-use Rattle.fills.specs.declared.FormFound
 use Rattle.fills.specs.declared.FormFound.{FormFound}
-use Rattle.fills.specs.declared.ScalarFound
 use Rattle.fills.specs.declared.ScalarFound.{ScalarFound}
 use Rattle.fills.specs.declared.Masked.{Masked}
-use Rattle.fills.specs.declared.MaskedFound
 use Rattle.fills.specs.declared.MaskedFound.{MaskedFound}
 use Rattle.fills.specs.declared.Laned.{Laned}
-use Rattle.fills.specs.declared.LanedFound
 use Rattle.fills.specs.declared.LanedFound.{LanedFound}
-use Rattle.fills.specs.declared.LanesFound
 use Rattle.fills.specs.declared.LanesFound.{LanesFound}
-use Rattle.fills.specs.declared.CombinationFound
 use Rattle.fills.specs.declared.CombinationFound.{CombinationFound}
-use Rattle.fills.specs.declared.ComparisonFound
 use Rattle.fills.specs.declared.ComparisonFound.{ComparisonFound}
-use Rattle.fills.specs.declared.ChoiceFound
 use Rattle.fills.specs.declared.ChoiceFound.{ChoiceFound}
 use Rattle.fills.specs.declared.Filled.{Filled}
 use Rattle.fills.specs.declared.Filled.TheVariants.{Full, Wrong}

@@ -7,7 +7,6 @@ use Rattle.base.specs.PackLaws.{short_code}
 use Rattle.record.specs.Modifiers.{instruction_modifiers_fit}
 use Rattle.record.specs.declared.VideoType.{VideoType}
 use Rattle.record.specs.declared.SetType.{SetType}
-use Rattle.record.specs.declared.SlctType
 use Rattle.record.specs.declared.SlctType.{SlctType}
 use Rattle.record.specs.declared.DataType.{DataType}
 use Rattle.record.specs.declared.CmpOp.{CmpOp}
@@ -27,18 +26,12 @@ use Rattle.rules.specs.Names.{video_type_name, set_type_name, type_name, six_nam
 use Rattle.tree.specs.Seen.{seen_head}
 use Rattle.tree.specs.Blank.{no_word, no_pred, blank_form, blank_combination, blank_choice, blank}
 use Rattle.tree.specs.declared.Head.{Head}
-use Rattle.names.specs.declared.Opcode
 use Rattle.names.specs.declared.Opcode.{Opcode}
-use Rattle.heads.specs.declared.Read
 use Rattle.heads.specs.declared.Read.{Read}
-use Rattle.heads.specs.declared.Sides
 use Rattle.heads.specs.declared.Sides.{Sides}
-use Rattle.heads.specs.declared.Compared
 use Rattle.heads.specs.declared.Compared.{Compared}
 use Rattle.heads.specs.declared.Test.{Test}
-use Rattle.heads.specs.declared.Tested
 use Rattle.heads.specs.declared.Tested.{Tested}
-use Rattle.heads.specs.declared.Found
 use Rattle.heads.specs.declared.Found.{Found}
 use Rattle.heads.specs.Tables.{slct_type_of}
 use Rattle.heads.specs.Rows.{name_at, past, whole_of, head_scalar, head_lanes, head_comparison, sides_by, sides_at, compared_by, head_compared, ending_by, ending_at, typed_by, typed_of, arithmetic_by, arithmetic_typed, arithmetic_row, vset_by, vset_row, vset_lanes_by, vset_lanes_row, lane_arithmetic_by, lane_arithmetic_typed, lane_arithmetic_row, test_at, tested_by, tested_of, set_by, set_at, set_tested, set_row, setp_by, setp_at, setp_tested, setp_row, selp_by, selp_row, slct_by, slct_at, slct_row, read_of, found_of, row_by, row_of}

@@ -11,9 +11,7 @@ use Rattle.laws.specs.Choices.{set_types, types, op2s}
 use Rattle.record.specs.declared.SetType.{SetType}
 use Rattle.record.specs.declared.DataType.{DataType}
 use Rattle.record.specs.declared.Op2.{Op2}
-use Rattle.names.specs.declared.BoolName
 use Rattle.names.specs.declared.BoolName.{BoolName}
-use Rattle.names.specs.declared.Op2Name
 use Rattle.names.specs.declared.Op2Name.{Op2Name}
 use Rattle.names.specs.Back.{bool_op_of, op2_of}
 use Rattle.heads.specs.Tables.{sat_code, ftz_code}

@@ -12,7 +12,6 @@ use Rattle.base.specs.Pack.{code_of, is_short_name, CodeOf}
 use Rattle.signs.specs.Text.{bytes}
 use Rattle.base.specs.Values.{StandsAt}
 use Rattle.record.specs.declared.VideoType.{VideoType}
-use Rattle.record.specs.declared.SlctType
 use Rattle.record.specs.declared.SlctType.{SlctType}
 use Rattle.record.specs.declared.DataType.{DataType}
 use Rattle.record.specs.declared.CmpOp.{CmpOp}
@@ -35,39 +34,23 @@ use Rattle.signs.specs.Lists.Listed.{here, later}
 use Rattle.tree.specs.Seen.{names_kept, seen_head}
 use Rattle.tree.specs.Blank.{no_word, no_pred, no_condition, blank_form, blank_combination, blank_choice, blank}
 use Rattle.base.specs.PackLaws.{short_name, short_code, code_positive, code_known}
-use Rattle.names.specs.declared.Opcode
 use Rattle.names.specs.declared.Opcode.{Opcode}
-use Rattle.names.specs.declared.OpcodeName
 use Rattle.names.specs.declared.OpcodeName.{OpcodeName}
-use Rattle.names.specs.declared.VideoName
 use Rattle.names.specs.declared.VideoName.{VideoName}
-use Rattle.names.specs.declared.SetName
 use Rattle.names.specs.declared.SetName.{SetName}
-use Rattle.names.specs.declared.TypeName
 use Rattle.names.specs.declared.TypeName.{TypeName}
-use Rattle.heads.specs.declared.SlctName
 use Rattle.heads.specs.declared.SlctName.{SlctName}
-use Rattle.names.specs.declared.SixName
 use Rattle.names.specs.declared.SixName.{SixName}
-use Rattle.names.specs.declared.CmpName
 use Rattle.names.specs.declared.CmpName.{CmpName}
-use Rattle.names.specs.declared.BoolName
 use Rattle.names.specs.declared.BoolName.{BoolName}
-use Rattle.names.specs.declared.Op2Name
 use Rattle.names.specs.declared.Op2Name.{Op2Name}
-use Rattle.heads.specs.declared.Read
 use Rattle.heads.specs.declared.Read.{Read}
-use Rattle.heads.specs.declared.Sides
 use Rattle.heads.specs.declared.Sides.{Sides}
-use Rattle.heads.specs.declared.Compared
 use Rattle.heads.specs.declared.Compared.{Compared}
 use Rattle.heads.specs.declared.Typed.{Typed}
-use Rattle.heads.specs.declared.TypedFound
 use Rattle.heads.specs.declared.TypedFound.{TypedFound}
 use Rattle.heads.specs.declared.Test.{Test}
-use Rattle.heads.specs.declared.Tested
 use Rattle.heads.specs.declared.Tested.{Tested}
-use Rattle.heads.specs.declared.Found
 use Rattle.heads.specs.declared.Found.{Found}
 use Rattle.names.specs.Back.{opcode_of, video_of, set_type_of, type_of, six_of, cmp_of, bool_op_of, op2_of}
 use Rattle.heads.specs.Tables.{slct_type_of, sat_code, ftz_code, add_code, s32_code, f32_code}

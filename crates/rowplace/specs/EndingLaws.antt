@@ -1,5 +1,5 @@
 -- Every list of names that begins a row is made a row by one of the endings that the code tries.
-use Rattle.std.specs.Prelude.{ℕ, zero, suc, ◌+◌, ◌≤◌, ◌≡◌, refl, Bool, true, false, not, ◌&&◌, ◌||◌, List, [], ◌∷◌, ◌++◌, length, take}
+use Rattle.std.specs.Prelude.{ℕ, zero, suc, ◌≤◌, ◌≡◌, refl, Bool, true, false, not, ◌&&◌, ◌||◌, List, [], ◌∷◌, ◌++◌, length, take}
 use Rattle.std.proofs.Common.{arith, ◌∙◌, append-nil, take_all}
 use Rattle.signs.specs.Text.{bytes}
 use Rattle.record.specs.Modifiers.{kind_of, cmp_fits, is_f32, instruction_modifiers_fit}

@@ -1,5 +1,5 @@
 -- How far a head begins as a row does, as the code tries it. No one has to believe it: laws join it to the table.
-use Rattle.std.specs.Prelude.{ℕ, ◌+◌, ◌-◌, [], ◌∷◌, ◌≡◌, refl, Bool, true, false, ◌||◌, cond, eqb, ltb}
+use Rattle.std.specs.Prelude.{ℕ, ◌+◌, ◌-◌, [], ◌∷◌, ◌≡◌, Bool, true, false, ◌||◌, cond, eqb, ltb}
 use Rattle.base.specs.Pack.{pack}
 use Rattle.signs.specs.Text.{bytes}
 use Rattle.record.specs.Modifiers.{instruction_modifiers_fit}

@@ -7,7 +7,7 @@ use Rattle.signs.specs.Bytes.All.{none, more}
 use Rattle.signs.specs.Text.{bytes}
 use Rattle.record.specs.declared.File.TheVariants.{Words, Halves, Doubles, Preds}
 use Rattle.record.specs.Registers.{Place, reg}
-use Rattle.rules.specs.Shape.{Name, dotted, head_text, digit, register_text, Spot, at, nothing, spot_text, OperandTree, pair, operand_text}
+use Rattle.rules.specs.Shape.{Name, dotted, head_text, register_text, Spot, at, nothing, spot_text, OperandTree, pair, operand_text}
 use Rattle.rules.specs.Grammar.{LineTree, Good, line_text, GuardTree, unguarded, guarded, guard_tree_text, Divided, divided_text, names_of, GoodName, GoodNames, GoodGuard, GoodOperand, GoodOthers}
 use Rattle.rules.specs.BytePlaces.{guard_start, head_start, name_start, operands_start, to_next_operand, operand_start}
 use Rattle.scan.specs.Runs.{run_length, capped_sum, most}

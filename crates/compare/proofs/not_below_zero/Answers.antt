@@ -10,7 +10,7 @@ returns-in-S32 c = rw c.in-S32.is (sign_is c.args.c (search rules))
 pub returns-in-F32 : goal.returns-in-F32
 unfolding not_below_zero
 returns-in-F32 c = simp (
-      c.single-x.ensures,
-      c.flush.ensures,
-      c.in-F32.is,
-    )
+  c.single-x.ensures,
+  c.flush.ensures,
+  c.in-F32.is,
+)

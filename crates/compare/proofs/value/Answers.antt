@@ -40,36 +40,36 @@ returns-in-U64 c =
 pub returns-in-S16 : goal.returns-in-S16
 unfolding compared_of
 returns-in-S16 c = simp (
-      c.moved.ensures,
-      c.in-S16.is,
-    )
+  c.moved.ensures,
+  c.in-S16.is,
+)
 
 pub returns-in-S32 : goal.returns-in-S32
 unfolding compared_of
 returns-in-S32 c = simp (
-      c.moved-in-S32.ensures,
-      c.in-S32.is,
-    )
+  c.moved-in-S32.ensures,
+  c.in-S32.is,
+)
 
 pub returns-in-S64 : goal.returns-in-S64
 unfolding compared_of
 returns-in-S64 c = simp (
-      c.moved-in-S64.ensures,
-      c.in-S64.is,
-    )
+  c.moved-in-S64.ensures,
+  c.in-S64.is,
+)
 
 pub returns-in-F32 : goal.returns-in-F32
 unfolding compared_of
 returns-in-F32 c = simp (
-      c.single.ensures,
-      c.flush.ensures,
-      c.low_word.ensures,
-      c.in-F32.is,
-    )
+  c.single.ensures,
+  c.flush.ensures,
+  c.low_word.ensures,
+  c.in-F32.is,
+)
 
 pub returns-in-F64 : goal.returns-in-F64
 unfolding compared_of
 returns-in-F64 c = simp (
-      c.double.ensures,
-      c.in-F64.is,
-    )
+  c.double.ensures,
+  c.in-F64.is,
+)

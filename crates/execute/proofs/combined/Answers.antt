@@ -10,7 +10,7 @@ returns-in-Alone c =
 pub returns-in-With : goal.returns-in-With
 unfolding combined_of
 returns-in-With c = simp (
-      c.bool_op.ensures,
-      c.condition_holds.ensures,
-      c.in-With.is,
-    )
+  c.bool_op.ensures,
+  c.condition_holds.ensures,
+  c.in-With.is,
+)

@@ -10,6 +10,6 @@ returns-in-Always c =
 pub returns-in-When : goal.returns-in-When
 unfolding guard_holds
 returns-in-When c = simp (
-      c.condition_holds.ensures,
-      c.in-When.is,
-    )
+  c.condition_holds.ensures,
+  c.in-When.is,
+)

@@ -4,6 +4,6 @@ use Rattle.fillplace.proofs.is_filled.Goals as goal
 pub returns : goal.returns
 unfolding is_filled
 returns c = simp (
-      c.is_full.ensures,
-      c.fill_in.ensures,
-    )
+  c.is_full.ensures,
+  c.fill_in.ensures,
+)

@@ -1,6 +1,5 @@
 use Rattle.std.proofs.Common.{arith, sym, ◌∙◌}
 use Rattle.begins.specs.Searches.{searched_stops, searched_goes, searched_ends}
-use Rattle.fillplace.specs.Tries.{begins_filled}
 use Rattle.fillplace.proofs.searched.Goals as goal
 
 pub returns-then-not-begins_filled : goal.returns-then-not-begins_filled

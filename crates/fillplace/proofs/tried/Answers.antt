@@ -4,6 +4,6 @@ use Rattle.fillplace.proofs.tried.Goals as goal
 pub returns : goal.returns
 unfolding tried
 returns c = simp (
-      c.is_filled.ensures,
-      c.completed.ensures,
-    )
+  c.is_filled.ensures,
+  c.completed.ensures,
+)

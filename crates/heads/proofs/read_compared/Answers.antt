@@ -5,8 +5,8 @@ use Rattle.heads.proofs.read_compared.Goals as goal
 pub returns : goal.returns
 unfolding head_compared
 returns c = simp (
-      c.compared_by.ensures,
-      six_is c.six_of-c.ensures,
-      c.name.ensures,
-      c.read_sides-s.ensures,
-    )
+  c.compared_by.ensures,
+  six_is c.six_of-c.ensures,
+  c.name.ensures,
+  c.read_sides-s.ensures,
+)

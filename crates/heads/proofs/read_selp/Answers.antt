@@ -5,7 +5,7 @@ use Rattle.heads.proofs.read_selp.Goals as goal
 pub returns : goal.returns
 unfolding selp_row
 returns c = simp (
-      c.selp_by.ensures,
-      type_is c.type_of.ensures,
-      c.name.ensures,
-    )
+  c.selp_by.ensures,
+  type_is c.type_of.ensures,
+  c.name.ensures,
+)

@@ -5,9 +5,9 @@ use Rattle.heads.proofs.read_tested.Goals as goal
 pub returns : goal.returns
 unfolding tested_of
 returns c = simp (
-      c.tested_by.ensures,
-      bool_is c.bool_of-b.ensures,
-      c.name-2.ensures,
-      cmp_is c.cmp_of-c.ensures,
-      c.name.ensures,
-    )
+  c.tested_by.ensures,
+  bool_is c.bool_of-b.ensures,
+  c.name-2.ensures,
+  cmp_is c.cmp_of-c.ensures,
+  c.name.ensures,
+)

@@ -5,9 +5,9 @@ use Rattle.heads.proofs.read_typed.Goals as goal
 pub returns : goal.returns
 unfolding typed_of
 returns c = simp (
-      c.typed_by.ensures,
-      c.name-sat.ensures,
-      c.read_sides-s.ensures,
-      video_is c.video_of-d.ensures,
-      c.name.ensures,
-    )
+  c.typed_by.ensures,
+  c.name-sat.ensures,
+  c.read_sides-s.ensures,
+  video_is c.video_of-d.ensures,
+  c.name.ensures,
+)

@@ -4,7 +4,7 @@ use Rattle.heads.proofs.read_vset.Goals as goal
 pub returns : goal.returns
 unfolding vset_row
 returns c = simp (
-      c.vset_by.ensures,
-      c.read_ending.ensures,
-      c.read_compared.ensures,
-    )
+  c.vset_by.ensures,
+  c.read_ending.ensures,
+  c.read_compared.ensures,
+)

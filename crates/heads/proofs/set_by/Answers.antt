@@ -10,15 +10,15 @@ returns-in_default c =
 pub returns-in_default-s : goal.returns-in_default-s
 unfolding set_by
 returns-in_default-s c = simp (
-      c.in_default-s.is,
-      c.in-Is.is,
-    )
+  c.in_default-s.is,
+  c.in-Is.is,
+)
 
 pub returns : goal.returns
 unfolding set_by
 returns c = simp (
-      c.whole.ensures,
-      c.blank_comparison-comparison.ensures,
-      c.in-Is-s.is,
-      c.in-Is.is,
-    )
+  c.whole.ensures,
+  c.blank_comparison-comparison.ensures,
+  c.in-Is-s.is,
+  c.in-Is.is,
+)

@@ -5,7 +5,7 @@ use Rattle.heads.proofs.setp_at.Goals as goal
 pub returns : goal.returns
 unfolding setp_at
 returns c = simp (
-      c.setp_by.ensures,
-      type_is c.type_of-s.ensures,
-      c.name.ensures,
-    )
+  c.setp_by.ensures,
+  type_is c.type_of-s.ensures,
+  c.name.ensures,
+)

@@ -10,7 +10,7 @@ returns-in_default c =
 pub returns : goal.returns
 unfolding setp_by
 returns c = simp (
-      c.whole.ensures,
-      c.blank_comparison-comparison.ensures,
-      c.in-Is.is,
-    )
+  c.whole.ensures,
+  c.blank_comparison-comparison.ensures,
+  c.in-Is.is,
+)

@@ -10,13 +10,13 @@ returns-in_default c =
 pub returns-in_default-b : goal.returns-in_default-b
 unfolding sides_by
 returns-in_default-b c = simp (
-      c.in_default-b.is,
-      c.in-Is.is,
-    )
+  c.in_default-b.is,
+  c.in-Is.is,
+)
 
 pub returns : goal.returns
 unfolding sides_by
 returns c = simp (
-      c.in-Is-b.is,
-      c.in-Is.is,
-    )
+  c.in-Is-b.is,
+  c.in-Is.is,
+)

@@ -5,9 +5,9 @@ use Rattle.heads.proofs.slct_at.Goals as goal
 pub returns : goal.returns
 unfolding slct_at
 returns c = simp (
-      c.slct_by.ensures,
-      c.slct_type-c.ensures,
-      c.name-2.ensures,
-      type_is c.type_of-t.ensures,
-      c.name.ensures,
-    )
+  c.slct_by.ensures,
+  c.slct_type-c.ensures,
+  c.name-2.ensures,
+  type_is c.type_of-t.ensures,
+  c.name.ensures,
+)

@@ -10,15 +10,15 @@ returns-in_default c =
 pub returns-in_default-c : goal.returns-in_default-c
 unfolding slct_by
 returns-in_default-c c = simp (
-      c.in_default-c.is,
-      c.in-Is.is,
-    )
+  c.in_default-c.is,
+  c.in-Is.is,
+)
 
 pub returns : goal.returns
 unfolding slct_by
 returns c = simp (
-      c.whole.ensures,
-      c.blank_choice-choice.ensures,
-      c.in-Is-c.is,
-      c.in-Is.is,
-    )
+  c.whole.ensures,
+  c.blank_choice-choice.ensures,
+  c.in-Is-c.is,
+  c.in-Is.is,
+)

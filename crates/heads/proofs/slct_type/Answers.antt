@@ -11,13 +11,13 @@ returns-then-x-eq-F32 c =
 pub returns-then-ftz-x : goal.returns-then-ftz-x
 unfolding slct_type_of
 returns-then-ftz-x c = simp (
-      c.if-ftz-x.true,
-      ne_eqb _ _ c.if-x-eq-F32.false,
-    )
+  c.if-ftz-x.true,
+  ne_eqb _ _ c.if-x-eq-F32.false,
+)
 
 pub returns : goal.returns
 unfolding slct_type_of
 returns c = simp (
-      c.if-ftz-x.false,
-      ne_eqb _ _ c.if-x-eq-F32.false,
-    )
+  c.if-ftz-x.false,
+  ne_eqb _ _ c.if-x-eq-F32.false,
+)

@@ -10,15 +10,15 @@ returns-in_default c =
 pub returns-in-Is-b : goal.returns-in-Is-b
 unfolding tested_by
 returns-in-Is-b c = simp (
-      c.read_test.ensures,
-      c.in-Is-b.is,
-      c.in-Is.is,
-    )
+  c.read_test.ensures,
+  c.in-Is-b.is,
+  c.in-Is.is,
+)
 
 pub returns-in-Not : goal.returns-in-Not
 unfolding tested_by
 returns-in-Not c = simp (
-      c.read_test-in-Not.ensures,
-      c.in-Not.is,
-      c.in-Is.is,
-    )
+  c.read_test-in-Not.ensures,
+  c.in-Not.is,
+  c.in-Is.is,
+)

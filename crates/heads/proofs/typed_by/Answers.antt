@@ -10,14 +10,14 @@ returns-in_default c =
 pub returns-in-Are : goal.returns-in-Are
 unfolding typed_by
 returns-in-Are c = simp (
-      c.in-Are.is,
-      c.sat_end-next.ensures,
-      c.in-Is.is,
-    )
+  c.in-Are.is,
+  c.sat_end-next.ensures,
+  c.in-Is.is,
+)
 
 pub returns-in-Wrong : goal.returns-in-Wrong
 unfolding typed_by
 returns-in-Wrong c = simp (
-      c.in-Wrong.is,
-      c.in-Is.is,
-    )
+  c.in-Wrong.is,
+  c.in-Is.is,
+)

@@ -11,16 +11,16 @@ returns-then-k-gt-MOST c =
 pub returns : goal.returns
 unfolding begins_row
 returns c = simp (
-      c.tried-11.ensures,
-      c.tried-10.ensures,
-      c.tried-9.ensures,
-      c.tried-8.ensures,
-      c.tried-7.ensures,
-      c.tried-6.ensures,
-      c.tried-5.ensures,
-      c.tried-4.ensures,
-      c.tried-3.ensures,
-      c.tried-2.ensures,
-      c.tried.ensures,
-      le-ltb _ _ c.if-k-gt-MOST.false,
-    )
+  c.tried-11.ensures,
+  c.tried-10.ensures,
+  c.tried-9.ensures,
+  c.tried-8.ensures,
+  c.tried-7.ensures,
+  c.tried-6.ensures,
+  c.tried-5.ensures,
+  c.tried-4.ensures,
+  c.tried-3.ensures,
+  c.tried-2.ensures,
+  c.tried.ensures,
+  le-ltb _ _ c.if-k-gt-MOST.false,
+)

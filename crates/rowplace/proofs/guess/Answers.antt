@@ -5,16 +5,16 @@ use Rattle.rowplace.proofs.guess.Goals as goal
 pub returns-then-n-eq0 : goal.returns-then-n-eq0
 unfolding guess_of
 returns-then-n-eq0 c = simp (
-      eq-eqb _ _ c.if-n-eq0.true,
-      c.in-Row.is,
-    )
+  eq-eqb _ _ c.if-n-eq0.true,
+  c.in-Row.is,
+)
 
 pub returns-else-n-eq0 : goal.returns-else-n-eq0
 unfolding guess_of
 returns-else-n-eq0 c = simp (
-      ne_eqb _ _ c.if-n-eq0.false,
-      c.in-Row.is,
-    )
+  ne_eqb _ _ c.if-n-eq0.false,
+  c.in-Row.is,
+)
 
 pub returns-in-NoOpcode : goal.returns-in-NoOpcode
 unfolding guess_of

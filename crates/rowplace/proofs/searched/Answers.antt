@@ -1,6 +1,5 @@
 use Rattle.std.proofs.Common.{arith, sym, ◌∙◌}
 use Rattle.begins.specs.Searches.{searched_stops, searched_goes, searched_ends}
-use Rattle.rowplace.specs.Tries.{begins_row}
 use Rattle.rowplace.proofs.searched.Goals as goal
 
 pub returns-then-not-begins_row : goal.returns-then-not-begins_row

@@ -9,16 +9,16 @@ returns-then-n-k c = simp (lt-ltb _ _ c.if-n-k.true)
 pub returns-then-k-n : goal.returns-then-k-n
 unfolding turns_at
 returns-then-k-n c = simp (
-      eq-eqb _ _ c.if-k-n.true,
-      c.begins_row-begun.ensures,
-      le-ltb _ _ c.if-n-k.false,
-    )
+  eq-eqb _ _ c.if-k-n.true,
+  c.begins_row-begun.ensures,
+  le-ltb _ _ c.if-n-k.false,
+)
 
 pub returns : goal.returns
 unfolding turns_at
 returns c = simp (
-      c.begins_row.ensures,
-      ne_eqb _ _ c.if-k-n.false,
-      c.begins_row-begun.ensures,
-      le-ltb _ _ c.if-n-k.false,
-    )
+  c.begins_row.ensures,
+  ne_eqb _ _ c.if-k-n.false,
+  c.begins_row-begun.ensures,
+  le-ltb _ _ c.if-n-k.false,
+)

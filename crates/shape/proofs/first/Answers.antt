@@ -4,10 +4,10 @@ use Rattle.shape.proofs.first.Goals as goal
 pub returns-in-Got : goal.returns-in-Got
 unfolding first_of
 returns-in-Got c = simp (
-      c.after.ensures,
-      c.byte.ensures,
-      c.in-Got.is,
-    )
+  c.after.ensures,
+  c.byte.ensures,
+  c.in-Got.is,
+)
 
 pub returns-in-Bad : goal.returns-in-Bad
 unfolding first_of

@@ -11,17 +11,17 @@ returns-then-n-eq0 c =
 pub returns-then-b-eq46 : goal.returns-then-b-eq46
 unfolding turn_named
 returns-then-b-eq46 c = simp (
-      c.further-then-b-eq46.ensures,
-      c.further.ensures,
-      eq-eqb _ _ c.if-b-eq46.true,
-      c.further-end.ensures,
-      ne_eqb _ _ c.if-n-eq0.false,
-    )
+  c.further-then-b-eq46.ensures,
+  c.further.ensures,
+  eq-eqb _ _ c.if-b-eq46.true,
+  c.further-end.ensures,
+  ne_eqb _ _ c.if-n-eq0.false,
+)
 
 pub returns : goal.returns
 unfolding turn_named
 returns c = simp (
-      ne_eqb _ _ c.if-b-eq46.false,
-      c.further-end.ensures,
-      ne_eqb _ _ c.if-n-eq0.false,
-    )
+  ne_eqb _ _ c.if-b-eq46.false,
+  c.further-end.ensures,
+  ne_eqb _ _ c.if-n-eq0.false,
+)

@@ -1,4 +1,4 @@
-use Rattle.std.proofs.Common.{List, ap, arith, drop, eq-eqb, eqb, false, get_or, le-leb, ne_eqb, refl, set, sym, take, true, ℕ, ⊎_elim, ◌+◌, ◌-◌, ◌<◌, ◌∙◌, ◌≡◌, ◌≤◌}
+use Rattle.std.proofs.Common.{List, ap, arith, drop, eq-eqb, eqb, false, get_or, le-leb, ne_eqb, refl, set, sym, take, true, ℕ, ◌+◌, ◌-◌, ◌<◌, ◌∙◌, ◌≡◌, ◌≤◌}
 use borrow.Author.Tests.{not-true, not-false, lt-leb}
 use Rattle.signs.specs.Bytes.{is_name_byte}
 use Rattle.base.specs.Pack.{code_of}
@@ -63,7 +63,7 @@ loop-turn-preserved c =
     let st : Names = names_by l.t h in
     let x = c.name_code-code.result in
     let kept : pushed_name h x ≡ record { n = capped_sum l.n 1; at = c.if-n-lt-NAMES_KEPT.at } =
-        elim c.if-n-lt-NAMES_KEPT.branch [ then-n-lt-NAMES_KEPT w ↦ rw w.at-is (stored l.n l.at x w.if-n-lt-NAMES_KEPT.true) | else-n-lt-NAMES_KEPT w ↦ rw w.at-is (unstored l.n l.at x w.if-n-lt-NAMES_KEPT.false) ] in
+    elim c.if-n-lt-NAMES_KEPT.branch [ then-n-lt-NAMES_KEPT w ↦ rw w.at-is (stored l.n l.at x w.if-n-lt-NAMES_KEPT.true) | else-n-lt-NAMES_KEPT w ↦ rw w.at-is (unstored l.n l.at x w.if-n-lt-NAMES_KEPT.false) ] in
     let e = name_turn_lem l.w.now st _ _ c.run_len-m.ensures c.byte.ensures (ne_eqb _ _ c.if-m-eq0.false) in
     let on = goes_on_lem (λ (x : Names). x.more) (λ (x : Names). x.step) name_turn s most_turns l._turn l.w.now st (omega arith) (not-false _ c.if-not-t.false) l.invariant.1 in
     let f = rw (← c.name_code-code.ensures, kept) at e in

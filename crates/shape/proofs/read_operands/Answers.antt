@@ -1,4 +1,4 @@
-use Rattle.std.proofs.Common.{List, ap, arith, drop, false, le-leb, refl, set, sym, ℕ, ⊎_elim, ◌+◌, ◌-◌, ◌<◌, ◌∙◌, ◌≡◌, ◌≤◌}
+use Rattle.std.proofs.Common.{List, ap, arith, drop, false, le-leb, refl, set, sym, ℕ, ◌+◌, ◌-◌, ◌<◌, ◌∙◌, ◌≡◌, ◌≤◌}
 use borrow.Author.Tests.{not-true, not-false, lt-leb}
 use Rattle.tree.specs.Seen.{operands_kept}
 use Rattle.tree.specs.declared.Tree.{Tree}
@@ -69,7 +69,7 @@ loop-turn-preserved c =
     let got = c.in-Got.is in
     let tree = c.in-Got.tree in
     let kept : pushed_tree o tree ≡ record { n = capped_sum l.n 1; at = c.if-n-lt-OPERANDS_KEPT.at } =
-        elim c.if-n-lt-OPERANDS_KEPT.branch [ then-n-lt-OPERANDS_KEPT w ↦ rw w.at-is (stored l.n l.at tree w.if-n-lt-OPERANDS_KEPT.true) | else-n-lt-OPERANDS_KEPT w ↦ rw w.at-is (unstored l.n l.at tree w.if-n-lt-OPERANDS_KEPT.false) ] in
+    elim c.if-n-lt-OPERANDS_KEPT.branch [ then-n-lt-OPERANDS_KEPT w ↦ rw w.at-is (stored l.n l.at tree w.if-n-lt-OPERANDS_KEPT.true) | else-n-lt-OPERANDS_KEPT w ↦ rw w.at-is (unstored l.n l.at tree w.if-n-lt-OPERANDS_KEPT.false) ] in
     let e = got_turn l.w.now st r tree _ c.read_operand-r.ensures got ∙ ap (listed_by (turn_by st.place r l.w.now)) kept in
     let on = goes_on_lem (λ (x : Listed). x.more) (λ (x : Listed). x.step) operand_turn s most_turns l._turn l.w.now st (omega arith) (not-false _ c.if-not-t.false) l.invariant.1 in
     (omega arith, rw (c.rest-next.ensures, c.turn_by-t.ensures, c.further-count.ensures) (on ∙ ap (λ (x : Listed). operand_turns (most_turns - (l._turn + 1)) (drop x.step l.w.now) x) e))

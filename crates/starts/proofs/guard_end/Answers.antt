@@ -4,9 +4,9 @@ use Rattle.starts.proofs.guard_end.Goals as goal
 pub returns-in-Got : goal.returns-in-Got
 unfolding guard_end
 returns-in-Got c = simp (
-      c.further.ensures,
-      c.in-Got.is,
-    )
+  c.further.ensures,
+  c.in-Got.is,
+)
 
 pub returns-in-Bad : goal.returns-in-Bad
 unfolding guard_end

@@ -4,6 +4,6 @@ use Rattle.starts.proofs.next_at.Goals as goal
 pub returns : goal.returns
 unfolding next_at
 returns c = simp (
-      c.next_of.ensures,
-      c.read_operand.ensures,
-    )
+  c.next_of.ensures,
+  c.read_operand.ensures,
+)

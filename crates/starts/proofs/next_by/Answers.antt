@@ -4,9 +4,9 @@ use Rattle.starts.proofs.next_by.Goals as goal
 pub returns-in-Comma : goal.returns-in-Comma
 unfolding next_by
 returns-in-Comma c = simp (
-      c.further.ensures,
-      c.in-Comma.is,
-    )
+  c.further.ensures,
+  c.in-Comma.is,
+)
 
 pub returns-in-Semicolon : goal.returns-in-Semicolon
 unfolding next_by

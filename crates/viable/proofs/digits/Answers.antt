@@ -4,7 +4,7 @@ use Rattle.viable.proofs.digits.Goals as goal
 pub returns : goal.returns
 unfolding digits
 returns c = simp (
-      c.pick.ensures,
-      c.pick-other.ensures,
-      c.is_digit.ensures,
-    )
+  c.pick.ensures,
+  c.pick-other.ensures,
+  c.is_digit.ensures,
+)
