@@ -20,7 +20,6 @@ use Rattle.record.specs.declared.Lanes.{Lanes}
 use Rattle.record.specs.declared.Pred.{Pred}
 use Rattle.record.specs.declared.Destination.{Destination}
 use Rattle.record.specs.declared.SetType.{SetType}
-use Rattle.record.specs.declared.SlctType
 use Rattle.record.specs.declared.SlctType.{SlctType}
 use Rattle.record.specs.declared.Word.{Word}
 use Rattle.record.specs.declared.Choice.{Choice}

@@ -8,7 +8,6 @@ use Rattle.record.specs.Refusals.{form_in_range}
 use Rattle.record.specs.declared.Word.{Word}
 use Rattle.record.specs.declared.Cmp6.{Cmp6}
 use Rattle.record.specs.declared.Arith.{Arith}
-use Rattle.record.specs.declared.LaneArith
 use Rattle.record.specs.declared.LaneArith.{LaneArith}
 use Rattle.record.specs.declared.VideoType.{VideoType}
 use Rattle.record.specs.declared.Lanes.{Lanes}

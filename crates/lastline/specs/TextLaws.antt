@@ -251,7 +251,7 @@ put_by_line f (line_found z) = f _ _ z
 pub put_by_none : {s t : List ℕ} {x y : Buffer} → Puts x (bytes "none") y → TextOf s none_has t → Puts x t y
 put_by_none f none_found = f
 
-pub put_by_number : {s t : List ℕ} {k : ℕ} {x y : Buffer} → Puts x (refused_text k) y → TextOf s (refused_by k) t → Puts x t y
+pub put_by_number : {s : List ℕ} {k : ℕ} {t : List ℕ} {x y : Buffer} → Puts x (refused_text k) y → TextOf s (refused_by k) t → Puts x t y
 put_by_number f refused = f
 
 pub answer_put : {s : List ℕ} {n : ℕ} {a : Answer} {x y z : Buffer} → LastIs s n a → ((t : List ℕ) → TextOf s a t → Puts x t y) → Puts y (line_feed ∷ []) z → PutsPrinted s n x z

@@ -77,7 +77,7 @@ pub record Same (x y : List ℕ) (e d m k : ℕ) (g h : Tally) : Type 0 where
   pub number : m ≡ k
   pub tally : g ≡ h
 
-pub step_one : {floor room from n e d m k : ℕ} {s x y : List ℕ} {t g h : Tally} → Step floor s room from n t x e m g → Step floor s room from n t y d k h → Same x y e d m k g h
+pub step_one : {floor : ℕ} {s : List ℕ} {room from n : ℕ} {t : Tally} {x y : List ℕ} {e d m k : ℕ} {g h : Tally} → Step floor s room from n t x e m g → Step floor s room from n t y d k h → Same x y e d m k g h
 step_one (ended a) (ended b) = record { text = refl; place = refl; number = refl; tally = refl }
 step_one (ended a) (no_room b c) = absurd (omega arith)
 step_one (ended a) (too_long b c d) = absurd (omega arith)
@@ -120,12 +120,12 @@ logs_text {out = out} p = rw (p.buffer, p.length_of) (take_at p.text (drop (leng
 next_number_lem : (from n : ℕ) → from ≤ listing_limit → n ≤ from + 1 → next_number n ≡ suc n
 next_number_lem from n h k = mod-eq_of_lt (omega arith) ∙ add-one n
 
-calls_turns : {floor from n : ℕ} {s x : List ℕ} {t g : Tally} → length s ≤ listing_limit → n ≤ from + 1 → Calls floor s from n t x g → Turns floor n (lines_of (drop from s)) t x g
-calls_turns {floor} {from} {n} {s} {x} {t} {g} l k (no_more h) = rw (no_lines s from h) log.ended
+calls_turns : {floor : ℕ} {s : List ℕ} {from n : ℕ} {t : Tally} {x : List ℕ} {g : Tally} → length s ≤ listing_limit → n ≤ from + 1 → Calls floor s from n t x g → Turns floor n (lines_of (drop from s)) t x g
+calls_turns {floor} {s} {from} {n} {t} {x} {g} l k (no_more h) = rw (no_lines s from h) log.ended
 calls_turns l k (one_more h r (ended a) c) = absurd (omega arith)
 calls_turns l k (one_more h r (no_room a b) c) = absurd (omega arith)
 calls_turns l k (one_more h r (too_long a b d) c) = absurd (omega arith)
-calls_turns {floor} {from} {n} {s} {x} {t} {g} l k (one_more {u = u} h r (one_line {x = y} a b d p) c) =
+calls_turns {floor} {s} {from} {n} {t} {x} {g} l k (one_more {u = u} h r (one_line {x = y} a b d p) c) =
     let e = next_number_lem from n (omega arith) k in
     let q = calls_turns l (rw e (omega arith)) c in
     rw (first_line s from h) (more p (subst (λ (m : ℕ). Turns floor m (lines_of (drop (next_place s from) s)) (tally_after floor t y) u g) e q))
@@ -134,7 +134,7 @@ none_left : {floor from n : ℕ} {s x : List ℕ} {t g : Tally} → length s ≤
 none_left h (no_more a) = (refl, refl)
 none_left h (one_more a r p c) = absurd (omega arith)
 
-over : {floor from n : ℕ} {s x : List ℕ} {t g : Tally} → listing_limit < length s → from < length s → Calls floor s from n t x g → (x ≡ too_long_text) × (t ≡ g)
+over : {floor : ℕ} {s : List ℕ} {from n : ℕ} {t : Tally} {x : List ℕ} {g : Tally} → listing_limit < length s → from < length s → Calls floor s from n t x g → (x ≡ too_long_text) × (t ≡ g)
 over l h (no_more a) = absurd (omega arith)
 over l h (one_more a r (ended b) c) = absurd (omega arith)
 over l h (one_more a r (no_room b d) c) = absurd (omega arith)
@@ -159,7 +159,7 @@ calls_output floor s {x} {g} c = go (nat_lt listing_limit (length s)) refl
 
 -- ==== what a caller's loop needs
 
-pub call_goes_on : {floor room from n e m : ℕ} {s x : List ℕ} {t g : Tally} → from < length s → line_room ≤ room → Step floor s room from n t x e m g → from < e
+pub call_goes_on : {floor : ℕ} {s : List ℕ} {room from n : ℕ} {t : Tally} {x : List ℕ} {e m : ℕ} {g : Tally} → from < length s → line_room ≤ room → Step floor s room from n t x e m g → from < e
 call_goes_on h r (ended a) = absurd (omega arith)
 call_goes_on h r (no_room a b) = absurd (omega arith)
 call_goes_on h r (too_long a b c) = omega arith
@@ -198,7 +198,7 @@ whole_said : (floor : ℕ) (t : Tally) (x : Option Read) → Whole t → Whole (
 whole_said floor t none w = w
 whole_said floor t (some r) w = whole_after t w (record { read = r; floor = floor })
 
-calls_whole : {floor from n : ℕ} {s x : List ℕ} {t g : Tally} → Whole t → Calls floor s from n t x g → Whole g
+calls_whole : {floor : ℕ} {s : List ℕ} {from n : ℕ} {t : Tally} {x : List ℕ} {g : Tally} → Whole t → Calls floor s from n t x g → Whole g
 calls_whole w (no_more h) = w
 calls_whole w (one_more h r (ended a) c) = calls_whole w c
 calls_whole w (one_more h r (no_room a b) c) = calls_whole w c

@@ -1,7 +1,6 @@
 -- The code's side of the places. No one has to believe it: the laws beside it join it to `Placed`.
 use Rattle.std.specs.Prelude.{ℕ, List, Bool, true, false, cond, eqb, drop}
 use Rattle.signs.specs.Bytes.{is_blank}
-use Rattle.tree.specs.declared.Place
 use Rattle.tree.specs.declared.Place.{Place}
 use Rattle.tree.specs.declared.Guarding.{Guarding}
 use Rattle.tree.specs.declared.Guarding.TheVariants.{Unguarded, Guarded}
@@ -11,7 +10,6 @@ use Rattle.tree.specs.declared.Parts.{Parts}
 use Rattle.scan.specs.Runs.{run_length, capped_sum}
 use Rattle.shape.specs.Line.{shape_of}
 use Rattle.heads.specs.Rows.{row_of}
-use Rattle.heads.specs.declared.Found
 use Rattle.heads.specs.declared.Found.{Found}
 use Rattle.viable.specs.States.{shape_place_of}
 use Rattle.starts.specs.Starts.{head_at, name_from, operands_at, operand_from, bar_at}

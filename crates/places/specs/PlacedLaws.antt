@@ -34,7 +34,6 @@ use Rattle.shape.specs.Line.{shape_of}
 use Rattle.shape.specs.Complete.{shape_complete}
 use Rattle.heads.specs.Rows.{row_of}
 use Rattle.heads.specs.Complete.{row_complete, fit_blank, blank_names}
-use Rattle.heads.specs.declared.Found
 use Rattle.heads.specs.declared.Found.{Found}
 use Rattle.fills.specs.FillOne.{blank_twice}
 use Rattle.viable.specs.States.{shape_place_of}

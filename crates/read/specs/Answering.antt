@@ -17,7 +17,6 @@ use Rattle.heads.specs.Sound.{row_listed}
 use Rattle.read.specs.Refuses.{Refuses, over_160, no_shape, no_opcode, no_row, no_fit, out_of_file, same_pair, old_target, same_part, Decides, decides_read, decides_refused}
 use Rattle.places.specs.Mirror.{place_of}
 use Rattle.places.specs.PlacedLaws.{placed_2, placed_3, placed_4, placed_5, placed_6, placed_7, placed_only}
-use Rattle.read.specs.declared.Verdict
 use Rattle.read.specs.declared.Verdict.{Verdict}
 use Rattle.read.specs.Mirror.{verdict_of, no_place, refused_by, answer_by, read_of}
 use Rattle.read.specs.Laws.{decides, decides_unique, one_record, spelled_by_all}

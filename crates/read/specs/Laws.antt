@@ -33,17 +33,14 @@ use Rattle.shape.specs.Sound.{shape_sound}
 use Rattle.heads.specs.Rows.{row_of}
 use Rattle.heads.specs.Complete.{row_complete, same_row, wrong_no_row, fit_blank, blank_names}
 use Rattle.heads.specs.Sound.{row_sound, row_listed, no_opcode_known, wrong_known}
-use Rattle.heads.specs.declared.Found
 use Rattle.heads.specs.declared.Found.{Found}
 use Rattle.fills.specs.Fills.{filled_of}
 use Rattle.fills.specs.FillComplete.{fill_complete}
 use Rattle.fills.specs.FillSound.{fill_sound}
-use Rattle.fills.specs.declared.Filled
 use Rattle.fills.specs.declared.Filled.{Filled}
 use Rattle.refusals.specs.Order.{first_reading}
 use Rattle.places.specs.Mirror.{guard_good}
 use Rattle.places.specs.PlacedLaws.{guard_good_lem, good_operands}
-use Rattle.read.specs.declared.Verdict
 use Rattle.read.specs.declared.Verdict.{Verdict}
 use Rattle.read.specs.Mirror.{guard_in, instruction_in, full_is, filled_in, record_of, candidate_by, candidate_of, fit_by, refusal_of, decided, decided_by, verdict_of}
 

@@ -16,21 +16,17 @@ use Rattle.rules.specs.Targets.{allows}
 use Rattle.rules.specs.Strict.{passes}
 use Rattle.rules.specs.Reading.{line_limit, Answer, read, refused, refused_at}
 use Rattle.tree.specs.Blank.{no_pred, blank_choice}
-use Rattle.tree.specs.declared.Place
 use Rattle.tree.specs.declared.Place.{Place}
 use Rattle.tree.specs.declared.Guarding.{Guarding}
 use Rattle.tree.specs.declared.Guarding.TheVariants.{Unguarded, Guarded}
 use Rattle.tree.specs.declared.Parts.{Parts}
 use Rattle.shape.specs.Line.{shape_of}
 use Rattle.heads.specs.Rows.{row_of}
-use Rattle.heads.specs.declared.Found
 use Rattle.heads.specs.declared.Found.{Found}
 use Rattle.fills.specs.Fills.{filled_of}
-use Rattle.fills.specs.declared.Filled
 use Rattle.fills.specs.declared.Filled.{Filled}
 use Rattle.refusals.specs.Order.{first_reading}
 use Rattle.places.specs.Mirror.{guard_good, place_of}
-use Rattle.read.specs.declared.Verdict
 use Rattle.read.specs.declared.Verdict.{Verdict}
 
 -- ==== what the head gave

@@ -1,7 +1,6 @@
 -- What each answer of `read` says in the documents' words: the number of document 01, the place of T-05.
 use Rattle.std.specs.Prelude.{◌≡◌}
 use Rattle.rules.specs.Reading.{Answer, read, refused, refused_at}
-use Rattle.read.specs.declared.Reading
 use Rattle.read.specs.declared.Reading.{Reading}
 
 abbrev pub answer_of : Reading → Answer

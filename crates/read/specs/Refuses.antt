@@ -11,7 +11,6 @@ use Rattle.rules.specs.Strict.{passes, Readable}
 use Rattle.rules.specs.Grammar.{LineTree, names_of, Shaped}
 use Rattle.rules.specs.Reading.{line_limit, opcodes, Row, Fits, Relates}
 use Rattle.signs.specs.Lists.{Listed}
-use Rattle.read.specs.declared.Verdict
 use Rattle.read.specs.declared.Verdict.{Verdict}
 
 pub data Refuses (target : Target) (mode : Mode) (l : List ℕ) : ℕ → Type 0 where

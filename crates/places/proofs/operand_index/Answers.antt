@@ -4,6 +4,6 @@ use Rattle.places.proofs.operand_index.Goals as goal
 pub returns : goal.returns
 unfolding operand_index_of
 returns c = simp (
-      c.operand_index_by.ensures,
-      c.row.ensures,
-    )
+  c.operand_index_by.ensures,
+  c.row.ensures,
+)

@@ -10,6 +10,6 @@ returns-then-n c =
 pub returns : goal.returns
 unfolding refused_by
 returns c = simp (
-      c.place.ensures,
-      c.if-n.false,
-    )
+  c.place.ensures,
+  c.if-n.false,
+)
