@@ -286,8 +286,8 @@ pub record ExecutedAsDemanded (target : Target) (x : Record) (f : Files) (a : ex
   pub refused_as_lent : (n : ℕ) → a ≡ executing.refused n → Listed n (8 ∷ 12 ∷ 10 ∷ 11 ∷ []) × (g ≡ f)
   pub not_legal : is_legal x ≡ false → a ≡ executing.refused 8
   pub too_old : Legal x → allows target x ≡ false → a ≡ executing.refused 12
-  pub wrong_sizes_lem : Allowed target x → sizes_fit f ≡ false → a ≡ executing.refused 10
-  pub wrong_preds_lem : Allowed target x → sizes_fit f ≡ true → preds_fit f.preds ≡ false → a ≡ executing.refused 11
+  pub wrong_sizes : Allowed target x → sizes_fit f ≡ false → a ≡ executing.refused 10
+  pub wrong_preds : Allowed target x → sizes_fit f ≡ true → preds_fit f.preds ≡ false → a ≡ executing.refused 11
   pub done_where_allowed : Allowed target x → Admitted f → guard_holds f.preds x.guard ≡ true → a ≡ done
   pub destinations_hold : Allowed target x → Admitted f → guard_holds f.preds x.guard ≡ true → (w : Write) → Listed w (writes target x.instruction f) → at g w.place ≡ w.value
   pub skipped_where_false : Allowed target x → Admitted f → guard_holds f.preds x.guard ≡ false → (a ≡ skipped) × (g ≡ f)
@@ -325,8 +325,8 @@ executed_as_demanded target x f a g h =
       refused_as_lent = λ n e. let k = outcomes.execute_refused target x f n (sym said ∙ e) in (k.0, left ∙ k.1);
       not_legal = λ e. said ∙ ap (λ (o : executing.Outcome). o.answer) (outcomes.execute_8 target x f e);
       too_old = λ e o. said ∙ ap (λ (o : executing.Outcome). o.answer) (outcomes.execute_12 target x f e o);
-      wrong_sizes_lem = λ e s. said ∙ ap (λ (o : executing.Outcome). o.answer) (outcomes.execute_10 target x f e s);
-      wrong_preds_lem = λ e s b. said ∙ ap (λ (o : executing.Outcome). o.answer) (outcomes.execute_11 target x f e s b);
+      wrong_sizes = λ e s. said ∙ ap (λ (o : executing.Outcome). o.answer) (outcomes.execute_10 target x f e s);
+      wrong_preds = λ e s b. said ∙ ap (λ (o : executing.Outcome). o.answer) (outcomes.execute_11 target x f e s b);
       done_where_allowed = λ e i t. said ∙ ap (λ (o : executing.Outcome). o.answer) (outcomes.executes target x f e i t);
       destinations_hold = λ e i t w k. ap (λ (u : Files). at u w.place) left ∙ runs.holds_written target x f e i t w k;
       skipped_where_false = λ e i t. let k = outcomes.skips target x f e i t in (said ∙ ap (λ (o : executing.Outcome). o.answer) k, left ∙ ap (λ (o : executing.Outcome). o.files) k);

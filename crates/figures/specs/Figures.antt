@@ -223,7 +223,7 @@ picks_b line spelled c = gives line spelled 0x80000001 0x007FFFFF c 0x007FFFFF
 
 unfoldable pub figures : List Figure
 figures =
-    -- vset4.s32.u32.lt, a 80FF0001, b 00000002: 01010001. Mask.b20, c AABBCCDD: AA01CC01. `add`, full mask, c FFFFFFFF: 00000002
+    -- vset4.s32.u32.lt, a 80FF0001, b 00000002: 01010001. Mask .b20, c AABBCCDD: AA01CC01. `add`, full mask, c FFFFFFFF: 00000002
     gives "vset4.s32.u32.lt %r3, %r0, %r1, %r2;" (vset_record Byte S32 Lt false (full_mask Byte) (default_a Byte)) 0x80FF0001 0x00000002 0 0x01010001
     ∷ gives "vset4.s32.u32.lt %r3.b20, %r0, %r1, %r2;" (vset_record Byte S32 Lt false b20 (default_a Byte)) 0x80FF0001 0x00000002 0xAABBCCDD 0xAA01CC01
     ∷ gives "vset4.s32.u32.lt.add %r3, %r0, %r1, %r2;" (vset_record Byte S32 Lt true (full_mask Byte) (default_a Byte)) 0x80FF0001 0x00000002 0xFFFFFFFF 0x00000002

@@ -1,5 +1,5 @@
 -- Document 01's demand 3, and reading back of demand 2, as laws of the grammar and of `Answers`. Assumes nothing.
-use Rattle.std.specs.Prelude.{◌≡◌, Bool, cond, List, ◌∷◌, length, ℕ, ◌≤◌}
+use Rattle.std.specs.Prelude.{◌≡◌, Bool, cond, List, [], ◌∷◌, length, ℕ, ◌≤◌}
 use Rattle.std.proofs.Math.Path.{refl, subst}
 use Rattle.std.proofs.Common.{sym, ap}
 use Rattle.std.proofs.Math.Bool.{true, false}
@@ -47,7 +47,7 @@ pub accepted_none_applies : (target : Target) (mode : Mode) (l : List ℕ) (m : 
 accepted_none_applies target mode l m (accepts k r h) n e = accepted_none target mode l m r h n e
 
 first_listed : (target : Target) (mode : Mode) (l : List ℕ) (n : ℕ) (ns : List ℕ) → FirstOf target mode l n ns → Listed n ns
-first_listed target mode l n mathlib.Core.List.[] x' = elim x' [ ]
+first_listed target mode l n [] x' = elim x' [ ]
 first_listed target mode l n (k ∷ ns) (this a) = here refl
 first_listed target mode l n (k ∷ ns) (next z f) = later (first_listed target mode l n ns f)
 

@@ -1,7 +1,7 @@
 -- What the contracts as they stand in src/lib.rt say: nothing is asked of the caller, and the answer and the tally are those of the call's own tally, read
 -- and floor. A weaker contract would fail here. Assumes nothing.
 use Prim.Native.Nat.{ℕ}
-use mathlib.Core.Path.{◌≡◌}
+use mathlib.Core.Path.{◌≡◌, refl}
 use mathlib.Core.Bool.{Bool}
 use contract.Lifetimes.{Lfts}
 use borrow.Fn.Kinds.{Dens, ended_of}
@@ -56,16 +56,16 @@ pub update_promise : (κs : Lfts 0) (a : Dens κs update-kinds.ps) (x : Updated)
     → update.Post κs a x s → Leaves a.0 a.1.0 a.1.1.0 x.answer x.tally
 update_promise κs a x s p = p
 
-pub pass_asks_nothing : (κs : Lfts 1) (a : Dens κs pass-kinds.ps) → pass.Pre κs a
-pass_asks_nothing κs a = tt
+pub pass_asks_nothing : (κs : Lfts 1) (a : Dens κs pass-kinds.ps) → pass.Pre κs a ≡ Unit {0}
+pass_asks_nothing κs a = refl
 
 pub pass_promise : (κs : Lfts 1) (a : Dens κs pass-kinds.ps) (x : Passed) (s : AtExit (ended_of 1 pass-kinds.ps pass-kinds.r) κs)
-    → pass.Post κs a x s → Leaves a.0.now a.1.0 a.1.1.0 x s.0.now
-pass_promise κs a x s p = p
+    → pass.Post κs a x s ≡ Leaves a.0.now a.1.0 a.1.1.0 x s.0.now
+pass_promise κs a x s = refl
 
-pub lend_asks_nothing : (κs : Lfts 0) (a : Dens κs lend-kinds.ps) → lend.Pre κs a
-lend_asks_nothing κs a = tt
+pub lend_asks_nothing : (κs : Lfts 0) (a : Dens κs lend-kinds.ps) → lend.Pre κs a ≡ Unit {0}
+lend_asks_nothing κs a = refl
 
 pub lend_promise : (κs : Lfts 0) (a : Dens κs lend-kinds.ps) (x : Updated) (s : AtExit (ended_of 0 lend-kinds.ps lend-kinds.r) κs)
-    → lend.Post κs a x s → Leaves a.0 a.1.0 a.1.1.0 x.answer x.tally
-lend_promise κs a x s p = p
+    → lend.Post κs a x s ≡ Leaves a.0 a.1.0 a.1.1.0 x.answer x.tally
+lend_promise κs a x s = refl

@@ -283,7 +283,7 @@ pub fn pass(t: &mut Tally, r: Read, floor: u8) -> Passed
     done.answer
 }
 
-// Lends the tally to `pass` and takes it back: the one function that makes a `&mut` of a struct, so that its callers need no proof by hand.
+// Lends the tally to `pass` and takes it back, for a caller that holds it by value.
 pub fn lend(t: Tally, r: Read, floor: u8) -> Updated
     ensures { outcome (answer_of result.answer) result.tally ≡ call_of t r floor }
 {
