@@ -7,11 +7,8 @@ use Rattle.record.specs.Refusals.{is_legal}
 use Rattle.record.specs.Operands.{full_mask, default_a}
 use Rattle.record.specs.Registers.{Files, files}
 use Rattle.record.specs.declared.VideoType.TheVariants.{U32}
-use Rattle.record.specs.declared.DataType
 use Rattle.record.specs.declared.DataType.{DataType}
-use Rattle.record.specs.declared.SetType
 use Rattle.record.specs.declared.SetType.{SetType}
-use Rattle.record.specs.declared.SlctType
 use Rattle.record.specs.declared.SlctType.{SlctType}
 use Rattle.record.specs.declared.Cmp6.TheVariants.{Eq, Lt}
 use Rattle.record.specs.declared.CmpOp.TheVariants.{Six}
@@ -21,7 +18,6 @@ use Rattle.record.specs.declared.Form.TheVariants.{Plain}
 use Rattle.record.specs.declared.LaneWidth.TheVariants.{Half, Byte}
 use Rattle.record.specs.declared.Arith.TheVariants.{Vadd}
 use Rattle.record.specs.declared.LaneArith.TheVariants.{Scalar, Vavrg}
-use Rattle.record.specs.declared.Operand
 use Rattle.record.specs.declared.Operand.{Operand}
 use Rattle.record.specs.declared.Destination.TheVariants.{One, Pair}
 use Rattle.record.specs.declared.Instruction.TheVariants.{Set, Setp, Selp, Slct}

@@ -12,11 +12,8 @@ use Rattle.record.specs.declared.Word.{Word}
 use Rattle.record.specs.declared.Pred.{Pred}
 use Rattle.record.specs.declared.VideoType.{VideoType}
 use Rattle.record.specs.declared.VideoType.TheVariants.{U32, S32}
-use Rattle.record.specs.declared.DataType
 use Rattle.record.specs.declared.DataType.{DataType}
-use Rattle.record.specs.declared.SetType
 use Rattle.record.specs.declared.SetType.{SetType}
-use Rattle.record.specs.declared.SlctType
 use Rattle.record.specs.declared.SlctType.{SlctType}
 use Rattle.record.specs.declared.Cmp6.{Cmp6}
 use Rattle.record.specs.declared.Cmp6.TheVariants.{Eq, Lt, Gt, Ge}
@@ -42,7 +39,6 @@ use Rattle.record.specs.declared.Arith.TheVariants.{Vadd, Vsub, Vabsdiff, Vmin, 
 use Rattle.record.specs.declared.LaneArith.{LaneArith}
 use Rattle.record.specs.declared.LaneArith.TheVariants.{Scalar, Vavrg}
 use Rattle.record.specs.declared.Lanes.{Lanes}
-use Rattle.record.specs.declared.Operand
 use Rattle.record.specs.declared.Operand.{Operand}
 use Rattle.record.specs.declared.Op2.TheVariants.{Add, Min, Max}
 use Rattle.record.specs.declared.Destination.{Destination}

@@ -3,20 +3,15 @@ use Rattle.std.specs.Prelude.{ℕ, ◌≡◌, refl, true, false, List, [], ◌�
 use Rattle.signs.specs.Text.{bytes}
 use Rattle.record.specs.Operands.{full_mask, default_a, default_b}
 use Rattle.record.specs.declared.Word.{Word}
-use Rattle.record.specs.declared.Double.{Double}
 use Rattle.record.specs.declared.Pred.{Pred}
 use Rattle.record.specs.declared.Condition.{Condition}
 use Rattle.record.specs.declared.VideoType.TheVariants.{U32, S32}
-use Rattle.record.specs.declared.DataType
 use Rattle.record.specs.declared.DataType.{DataType}
-use Rattle.record.specs.declared.SetType
 use Rattle.record.specs.declared.SetType.{SetType}
-use Rattle.record.specs.declared.SlctType
 use Rattle.record.specs.declared.SlctType.{SlctType}
 use Rattle.record.specs.declared.Cmp6.TheVariants.{Eq, Lt, Gt, Ge}
 use Rattle.record.specs.declared.CmpF.TheVariants.{Ltu}
 use Rattle.record.specs.declared.CmpU.TheVariants.{Lo}
-use Rattle.record.specs.declared.CmpOp
 use Rattle.record.specs.declared.CmpOp.{CmpOp}
 use Rattle.record.specs.declared.BoolOp.TheVariants.{And, Xor}
 use Rattle.record.specs.declared.Op2.TheVariants.{Min}
@@ -28,7 +23,6 @@ use Rattle.record.specs.declared.Selector.TheVariants.{B0, B2, H1}
 use Rattle.record.specs.declared.Selected.TheVariants.{Whole, Part}
 use Rattle.record.specs.declared.Form.TheVariants.{Plain, Merge, Combine}
 use Rattle.record.specs.declared.LaneWidth.TheVariants.{Half, Byte}
-use Rattle.record.specs.declared.Operand
 use Rattle.record.specs.declared.Operand.{Operand}
 use Rattle.record.specs.declared.Destination.TheVariants.{One, Pair, First, Second}
 use Rattle.record.specs.declared.Instruction.{Instruction}
