@@ -3,7 +3,6 @@
 -- and questions who wrote a register last (T-11).
 use Rattle.std.specs.Prelude.{ℕ, ◌≡◌, refl, true, List, [], ◌∷◌, ◌++◌, map, length, replicate, leb}
 use Prim.Native.String.{String}
-use Rattle.std.proofs.Common.{sym, subst, ◌∙◌, leb-true}
 use Rattle.std.specs.Float.Ieee.{lt, eq, is_nan, of_bits, of_fields, odd}
 use Rattle.signs.specs.Bytes.{line_feed}
 use Rattle.signs.specs.Digits.{decimal, decimal_in, hex}
@@ -23,7 +22,7 @@ use Rattle.rules.specs.StandardLine.{standard}
 use Rattle.changes.specs.Changes.{start_files, change_text, changes_text, registers_text}
 use Rattle.lines.specs.Lines.{lines_with, listing_limit}
 use Rattle.report.specs.Listing.{printed_line, Output}
-use Rattle.report.specs.OutputLaws.{turns_text, turns_files, computed, computed_output}
+use Rattle.report.specs.OutputLaws.{turns_text, turns_files, computed}
 use Rattle.rules.specs.Reading.{Answer, read, refused, refused_at, Answers}
 use Rattle.scan.specs.Runs.{capped_sum}
 use Rattle.scan.specs.Numbers.{number_found, number_by}
@@ -50,11 +49,9 @@ use Rattle.fillplace.specs.Tries as fill
 use Rattle.fillplace.specs.Tries.{is_filled, begins_filled, operand_place_of}
 use Rattle.places.specs.Mirror.{modifier_place_of, operand_index_of, legal_place_of, guard_place_of, parts_place_of, place_of}
 use Rattle.read.specs.Mirror.{candidate_of, verdict_of, refused_by, read_of}
-use Rattle.read.specs.Answering.{answers}
 use Rattle.last.specs.Last.{last_in, last_of, ByFullReading}
 use Rattle.last.specs.Last as last
 use Rattle.last.specs.Back.{own_answer}
-use Rattle.last.specs.LastLaws.{same_last}
 use Rattle.lastline.specs.LastText.{Printed}
 use Rattle.lastline.specs.Steps.{feeds_in}
 use Rattle.lastline.specs.TextLaws as lasttext
@@ -426,7 +423,7 @@ shown =
 
 -- the reader's stages give each line its answer, and by them the listings are printed, the questions answered and their answers shown; together, so that the
 -- stages are named once
-answered_computed :
+pub answered_computed :
     (map (λ (x : Answered). read_of x.target x.mode x.line) answered ≡ map (λ (x : Answered). x.answer) answered)
     × (map (λ (x : Listing). computed x.target x.mode x.lines) listings ≡ map (λ (x : Listing). x.output) listings)
     × (map (λ (x : Listing). leb (length x.lines) listing_limit) listings ≡ map (λ (x : Listing). true) listings)
@@ -440,65 +437,20 @@ abbrev pub EachGets : List Answered → Type 0
 EachGets [] = Unit {0}
 EachGets (x ∷ xs) = Answers x.target x.mode x.line x.answer × EachGets xs
 
-each : (xs : List Answered) → map (λ (x : Answered). read_of x.target x.mode x.line) xs ≡ map (λ (x : Answered). x.answer) xs → EachGets xs
-each [] e = tt
-each (x ∷ xs) e =
-    let this : read_of x.target x.mode x.line ≡ x.answer = cc in
-    let rest : map (λ (x : Answered). read_of x.target x.mode x.line) xs ≡ map (λ (x : Answered). x.answer) xs = cc in
-    (subst (Answers x.target x.mode x.line) this (answers x.target x.mode x.line), each xs rest)
-
-pub answered_hold : EachGets answered
-answered_hold = each answered answered_computed.0
-
 -- what is printed of each listing of a list is the output beside it
 abbrev pub EachPrints : List Listing → Type 0
 EachPrints [] = Unit {0}
 EachPrints (x ∷ xs) = Output x.target x.mode x.lines x.output × EachPrints xs
-
-each_printed : (xs : List Listing) → map (λ (x : Listing). computed x.target x.mode x.lines) xs ≡ map (λ (x : Listing). x.output) xs
-    → map (λ (x : Listing). leb (length x.lines) listing_limit) xs ≡ map (λ (x : Listing). true) xs → EachPrints xs
-each_printed [] e h = tt
-each_printed (x ∷ xs) e h =
-    let this : computed x.target x.mode x.lines ≡ x.output = cc in
-    let rest : map (λ (x : Listing). computed x.target x.mode x.lines) xs ≡ map (λ (x : Listing). x.output) xs = cc in
-    let short : leb (length x.lines) listing_limit ≡ true = cc in
-    let shorts : map (λ (x : Listing). leb (length x.lines) listing_limit) xs ≡ map (λ (x : Listing). true) xs = cc in (
-      subst (Output x.target x.mode x.lines) this (computed_output x.target x.mode x.lines (leb-true (length x.lines) listing_limit short)),
-      each_printed xs rest shorts,
-    )
-
-pub listings_hold : EachPrints listings
-listings_hold = each_printed listings answered_computed.1 answered_computed.2
 
 -- a full reading from the front gives each question of a list the answer beside it
 abbrev pub EachLast : List Question → Type 0
 EachLast [] = Unit {0}
 EachLast (x ∷ xs) = ByFullReading x.listing x.register x.answer × EachLast xs
 
-each_last : (xs : List Question) → map (λ (x : Question). last_of own_answer x.listing x.register) xs ≡ map (λ (x : Question). x.answer) xs → EachLast xs
-each_last [] e = tt
-each_last (x ∷ xs) e =
-    let this : last_of own_answer x.listing x.register ≡ x.answer = cc in
-    let rest : map (λ (x : Question). last_of own_answer x.listing x.register) xs ≡ map (λ (x : Question). x.answer) xs = cc in
-    (λ answer full. sym (same_last answer full x.listing x.register ∙ this), each_last xs rest)
-
-pub questions_hold : EachLast questions
-questions_hold = each_last questions answered_computed.3
-
 -- and each is shown as the text beside it
 abbrev pub EachShows : List Shown → Type 0
 EachShows [] = Unit {0}
 EachShows (x ∷ xs) = Printed x.listing x.register x.text × EachShows xs
-
-each_shown : (xs : List Shown) → map (λ (x : Shown). lasttext.computed x.listing x.register) xs ≡ map (λ (x : Shown). x.text) xs → EachShows xs
-each_shown [] e = tt
-each_shown (x ∷ xs) e =
-    let this : lasttext.computed x.listing x.register ≡ x.text = cc in
-    let rest : map (λ (x : Shown). lasttext.computed x.listing x.register) xs ≡ map (λ (x : Shown). x.text) xs = cc in
-    (subst (Printed x.listing x.register) this (lasttext.every_question x.listing x.register), each_shown xs rest)
-
-pub shown_hold : EachShows shown
-shown_hold = each_shown shown answered_computed.4
 
 -- 65,536 bytes are no longer listing
 pub limit_in : (answer : List ℕ → Answer) → last_of answer (replicate 65536 line_feed) 64 ≡ last.refused_by 6
