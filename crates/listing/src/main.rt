@@ -21,7 +21,7 @@ fn say_first(rt: &impl Print, s: &[u8], n: usize) -> bool {
     if s.len() < n {
         return false;
     }
-    streams::write_all(rt, &s[0..n])
+    streams::write_all(&mut std::io::writer(rt), &s[0..n])
 }
 
 // Calls `some_lines` until the listing ends, and prints what each call has put into the buffer; false, and no more is

@@ -28,7 +28,7 @@ fn say_first(rt: &impl Print, s: &[u8], n: usize) -> bool {
     if s.len() < n {
         return false;
     }
-    streams::write_all(rt, &s[0..n])
+    streams::write_all(&mut std::io::writer(rt), &s[0..n])
 }
 
 // Calls `log_line` until the input ends, and prints what each call has put into the buffer; no more, where the system

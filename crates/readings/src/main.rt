@@ -26,7 +26,7 @@ const NAME: usize = 5;
 const STRICT: usize = 7;
 
 fn say(rt: &impl Print, s: &[u8]) {
-    streams::write_all(rt, s);
+    streams::write_all(&mut std::io::writer(rt), s);
 }
 
 // ---- decoding

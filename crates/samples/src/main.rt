@@ -11,7 +11,7 @@ mod writing;
 const INPUT: usize = 1048576;
 
 pub(crate) fn say(rt: &impl Print, s: &[u8]) {
-    streams::write_all(rt, s);
+    streams::write_all(&mut std::io::writer(rt), s);
 }
 
 pub(crate) fn say_byte(rt: &impl Print, b: u8) {

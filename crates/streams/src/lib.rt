@@ -1,11 +1,11 @@
 // Standard input, standard output and the arguments, as the programs take them.
 #![tactic(auto)]
 
-ghost use Rattle.std.specs.Prelude.{◌≤◌, length, take};
-ghost use Rattle.std.specs.Io.KnownBytes.{Consumes};
+ghost use Rattle.std.specs.Prelude.{◌≡◌, ◌≤◌, length, take, true};
+ghost use Rattle.std.specs.Io.KnownBytes.{Appends, Consumes};
 
 use std::env::FillError;
-use std::io::Read;
+use std::io::{Read, Write};
 use std::rt::Env;
 
 // Reads until buf is full, the input ends or a read fails, and answers how many bytes stand at the start of buf then.
@@ -26,9 +26,11 @@ pub fn read_full<R: Read>(reader: &mut R, buf: &mut [u8]) -> usize
     done
 }
 
-// Whether the system took all of the bytes.
-pub fn write_all(rt: &impl Print, s: &[u8]) -> bool {
-    rt.write_all(s).is_ok()
+// Whether the writer took all of the bytes.
+pub fn write_all<W: Write>(writer: &mut W, s: &[u8]) -> bool
+    ensures { result ≡ true → Appends (W.contents writer.old) (W.contents writer.new) s.now }
+{
+    writer.write_all(s).is_ok()
 }
 
 // Argument i at the start of buf, of a longer one and of one that is not there no byte; how many bytes.

@@ -28,7 +28,7 @@ fn say_first(rt: &impl Print, s: &[u8], n: usize) -> bool {
     if s.len() < n {
         return false;
     }
-    streams::write_all(rt, &s[0..n])
+    streams::write_all(&mut std::io::writer(rt), &s[0..n])
 }
 
 // With that room there is a text (`no_room` of `Lays` is what a shorter buffer gets).
