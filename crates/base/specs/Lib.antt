@@ -5,3 +5,4 @@ pub mod Moved
 pub mod Values
 pub mod Pack
 pub mod PackLaws
+pub mod Pairs

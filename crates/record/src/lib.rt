@@ -3,21 +3,27 @@
 
 #![tactic(auto)]
 
+ghost use Rattle.std.specs.Prelude.{◌≡◌, ℕ};
+ghost use Rattle.record.specs.declared.File.{File};
+ghost use Rattle.record.specs.declared.File.TheVariants.{Words, Halves, Doubles, Preds};
+ghost use Rattle.record.specs.Registers.{reg, count_of, is_inside};
+
 // Word, half-word (T-06), double-word and predicate numbers are kept apart. Each holds every number that a line can spell, 0 to 999.
-#[derive(Clone, Copy)]
+// Document 01 names three one-number types, T-06 the fourth; what the four share is the trait Numbered.
+#[derive(Clone, Copy, PartialEq, Eq)]
 pub struct Word(pub u16);
 
-#[derive(Clone, Copy)]
+#[derive(Clone, Copy, PartialEq, Eq)]
 pub struct Half(pub u16);
 
-#[derive(Clone, Copy)]
+#[derive(Clone, Copy, PartialEq, Eq)]
 pub struct Double(pub u16);
 
-#[derive(Clone, Copy)]
+#[derive(Clone, Copy, PartialEq, Eq)]
 pub struct Pred(pub u16);
 
 // The four lent files, in the order in which they are lent.
-#[derive(Clone, Copy)]
+#[derive(Clone, Copy, PartialEq, Eq)]
 pub enum File {
     Words,
     Halves,
@@ -34,8 +40,119 @@ pub const DOUBLES: u16 = 32;
 
 pub const PREDS: u16 = 16;
 
+impl File {
+    // How many registers it has.
+    pub fn size(self) -> u16
+        ensures { result ≡ count_of self }
+    {
+        match self {
+            File::Words => WORDS,
+            File::Halves => HALVES,
+            File::Doubles => DOUBLES,
+            File::Preds => PREDS,
+        }
+    }
+}
+
+// What the four kinds of registers share: a file, what it holds (0 past its end), a number there.
+pub trait Numbered: Copy {
+    type Value: Copy;
+
+    const FILE: File;
+
+    const ZERO: Self::Value;
+
+    ghost FILE: { File };
+
+    ghost ZERO: { Self.Value };
+
+    ghost number: { Self → ℕ };
+
+    fn number(self) -> u16
+        ensures { result ≡ number self };
+}
+
+impl Numbered for Word {
+    type Value = u32;
+
+    const FILE: File = File::Words;
+
+    const ZERO: u32 = 0;
+
+    ghost FILE = { Words };
+
+    ghost ZERO = { 0 };
+
+    ghost number = { λ w. w.0 };
+
+    fn number(self) -> u16 {
+        self.0
+    }
+}
+
+impl Numbered for Half {
+    type Value = u16;
+
+    const FILE: File = File::Halves;
+
+    const ZERO: u16 = 0;
+
+    ghost FILE = { Halves };
+
+    ghost ZERO = { 0 };
+
+    ghost number = { λ h. h.0 };
+
+    fn number(self) -> u16 {
+        self.0
+    }
+}
+
+impl Numbered for Double {
+    type Value = u64;
+
+    const FILE: File = File::Doubles;
+
+    const ZERO: u64 = 0;
+
+    ghost FILE = { Doubles };
+
+    ghost ZERO = { 0 };
+
+    ghost number = { λ d. d.0 };
+
+    fn number(self) -> u16 {
+        self.0
+    }
+}
+
+impl Numbered for Pred {
+    type Value = u8;
+
+    const FILE: File = File::Preds;
+
+    const ZERO: u8 = 0;
+
+    ghost FILE = { Preds };
+
+    ghost ZERO = { 0 };
+
+    ghost number = { λ p. p.0 };
+
+    fn number(self) -> u16 {
+        self.0
+    }
+}
+
+// Whether the register is in its file.
+pub fn in_file<R: Numbered>(x: R) -> bool
+    ensures { result ≡ is_inside (reg R.FILE (R.number x)) }
+{
+    x.number() < R::FILE.size()
+}
+
 // T is u32 or s32.
-#[derive(Clone, Copy)]
+#[derive(Clone, Copy, PartialEq, Eq)]
 pub enum VideoType {
     U32,
     S32,
@@ -50,6 +167,7 @@ pub enum SetType {
 }
 
 // The second type of slct: `ftz` stands only with f32.
+// Not Option, which would not say s32: `head_names` and `not_below_zero` (rules/specs) go by the two names.
 #[derive(Clone, Copy)]
 pub enum SlctType {
     S32,
@@ -57,7 +175,7 @@ pub enum SlctType {
 }
 
 // The types of stype, of selp, and of slct's dtype.
-#[derive(Clone, Copy)]
+#[derive(Clone, Copy, PartialEq, Eq)]
 pub enum DataType {
     B16,
     B32,
@@ -73,7 +191,7 @@ pub enum DataType {
 }
 
 // A type's letter.
-#[derive(Clone, Copy)]
+#[derive(Clone, Copy, PartialEq, Eq)]
 pub enum Kind {
     B,
     U,
@@ -82,7 +200,7 @@ pub enum Kind {
 }
 
 // CMP6 is eq ne lt le gt ge.
-#[derive(Clone, Copy)]
+#[derive(Clone, Copy, PartialEq, Eq)]
 pub enum Cmp6 {
     Eq,
     Ne,
@@ -149,6 +267,7 @@ pub enum Arith {
 }
 
 // What the forms with 2 and 4 compute lane by lane (T-01): as scalar arithmetic does, or the average.
+// Not Option, where None would be vavrg: `lane_arith_z` and `lane_arith_stem` (rules/specs) go by the two names.
 #[derive(Clone, Copy)]
 pub enum LaneArith {
     Scalar(Arith),
@@ -163,6 +282,7 @@ pub struct Condition {
 }
 
 // `@`, optional `!`, a predicate; or no guard.
+// Not Option: `guard_holds`, under `run`, and `GuardSpells` (rules/specs) go by the two names.
 #[derive(Clone, Copy)]
 pub enum Guard {
     Always,
@@ -170,6 +290,7 @@ pub enum Guard {
 }
 
 // A last operand c exactly when BoolOp is present.
+// Not Option of a pair: `combined_of`, under `run`, and `combination_last` (rules/specs) go by the two names.
 #[derive(Clone, Copy)]
 pub enum Combination {
     Alone,
@@ -213,14 +334,15 @@ pub struct Scalar {
 }
 
 // The lane width: a form with 2 has two lanes of a half, one with 4 four of a byte.
-#[derive(Clone, Copy)]
+#[derive(Clone, Copy, PartialEq, Eq)]
 pub enum LaneWidth {
     Half,
     Byte,
 }
 
 // The lanes that a mask names. A form with 2 has lanes 0 and 1: the others are spare room.
-#[derive(Clone, Copy)]
+// Not an array, nor are Digits: `mask_at` and `digit_at` (rules/specs), under `run`, go by the fields.
+#[derive(Clone, Copy, PartialEq, Eq)]
 pub struct Mask {
     pub lane0: bool,
     pub lane1: bool,
@@ -229,7 +351,7 @@ pub struct Mask {
 }
 
 // A lane selector: for each lane the part that it takes. The lanes that a form with 2 has not are spare room.
-#[derive(Clone, Copy)]
+#[derive(Clone, Copy, PartialEq, Eq)]
 pub struct Digits {
     pub lane0: u8,
     pub lane1: u8,
@@ -340,7 +462,7 @@ pub struct Record {
 }
 
 // The card that a line is read for and worked on: sm_10, sm_13, sm_20, sm_30.
-#[derive(Clone, Copy)]
+#[derive(Clone, Copy, PartialEq, Eq, PartialOrd, Ord)]
 pub enum Target {
     Sm10,
     Sm13,
@@ -349,7 +471,7 @@ pub enum Target {
 }
 
 // How a line is read: as document 01 has it, or strictly (T-09).
-#[derive(Clone, Copy)]
+#[derive(Clone, Copy, PartialEq, Eq)]
 pub enum Mode {
     Ordinary,
     Strict,

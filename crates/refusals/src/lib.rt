@@ -1,41 +1,64 @@
-// Which refusal comes first, in the documents' order: each is looked at only when the earlier ones don't apply.
+// The documents' refusals with their numbers, and which of them comes first: each is looked at only when the earlier ones don't apply.
 #![tactic(auto)]
 
 ghost use Rattle.std.specs.Prelude.{◌≡◌};
+ghost use Rattle.refusals.specs.Numbers.{number_of, first_number};
 ghost use Rattle.refusals.specs.Order.{first_reading, first_executing};
 
-// No refusal applies.
-const NONE: u8 = 0;
+// Document 01's refusals of reading, then of writing and executing; then those of document 02's requests.
+#[derive(Clone, Copy)]
+pub enum Refusal {
+    LineTooLong,
+    NoShape,
+    NoOpcode,
+    NoRow,
+    NoFit,
+    OutOfFile,
+    SamePair,
+    NotLegal,
+    TooShort,
+    WrongSizes,
+    WrongPreds,
+    // T-07
+    TargetTooOld,
+    // T-09
+    AgainstItself,
+    // T-13
+    LowerPass,
+    TallyFull,
+    NotTally,
+    // T-11
+    ListingTooLong,
+}
 
-// The refusals of reading.
-const TOO_LONG: u8 = 1;
+impl Refusal {
+    // The documents' number.
+    pub fn number(self) -> u8
+        ensures { result ≡ number_of self }
+    {
+        match self {
+            Refusal::LineTooLong => 1,
+            Refusal::NoShape => 2,
+            Refusal::NoOpcode => 3,
+            Refusal::NoRow => 4,
+            Refusal::NoFit => 5,
+            Refusal::OutOfFile => 6,
+            Refusal::SamePair => 7,
+            Refusal::NotLegal => 8,
+            Refusal::TooShort => 9,
+            Refusal::WrongSizes => 10,
+            Refusal::WrongPreds => 11,
+            Refusal::TargetTooOld => 12,
+            Refusal::AgainstItself => 15,
+            Refusal::LowerPass => 19,
+            Refusal::TallyFull => 20,
+            Refusal::ListingTooLong => 22,
+            Refusal::NotTally => 23,
+        }
+    }
+}
 
-const NO_SHAPE: u8 = 2;
-
-const NO_OPCODE: u8 = 3;
-
-const NO_ROW: u8 = 4;
-
-const NO_FIT: u8 = 5;
-
-const OUT_OF_FILE: u8 = 6;
-
-const SAME_PAIR: u8 = 7;
-
-// T-07: reading and executing.
-const TOO_OLD: u8 = 12;
-
-// T-09: strict reading.
-const AGAINST_ITSELF: u8 = 15;
-
-// The refusals of executing.
-const NOT_LEGAL: u8 = 8;
-
-const WRONG_SIZES: u8 = 10;
-
-const WRONG_PREDS: u8 = 11;
-
-// The first refusal of reading that applies, 0 where none does.
+// The first refusal of reading that applies.
 pub fn reading(
     too_long: bool,
     no_shape: bool,
@@ -46,54 +69,50 @@ pub fn reading(
     same_pair: bool,
     too_old: bool,
     against_itself: bool,
-) -> u8
-    ensures { result ≡ first_reading too_long no_shape no_opcode no_row no_fit out_of_file same_pair too_old against_itself }
+) -> Option<Refusal>
+    ensures { first_number result ≡ first_reading too_long no_shape no_opcode no_row no_fit out_of_file same_pair too_old against_itself }
 {
     if too_long {
-        return TOO_LONG;
-    }
-    if no_shape {
-        return NO_SHAPE;
-    }
-    if no_opcode {
-        return NO_OPCODE;
-    }
-    if no_row {
-        return NO_ROW;
-    }
-    if no_fit {
-        return NO_FIT;
-    }
-    if out_of_file {
-        return OUT_OF_FILE;
-    }
-    if same_pair {
-        return SAME_PAIR;
-    }
-    if too_old {
-        TOO_OLD
+        Some(Refusal::LineTooLong)
+    } else if no_shape {
+        Some(Refusal::NoShape)
+    } else if no_opcode {
+        Some(Refusal::NoOpcode)
+    } else if no_row {
+        Some(Refusal::NoRow)
+    } else if no_fit {
+        Some(Refusal::NoFit)
+    } else if out_of_file {
+        Some(Refusal::OutOfFile)
+    } else if same_pair {
+        Some(Refusal::SamePair)
+    } else if too_old {
+        Some(Refusal::TargetTooOld)
     } else if against_itself {
-        AGAINST_ITSELF
+        Some(Refusal::AgainstItself)
     } else {
-        NONE
+        None
     }
 }
 
-// The first refusal of executing that applies, 0 where none does.
-pub fn executing(illegal: bool, not_allowed: bool, wrong_sizes: bool, wrong_preds: bool) -> u8
-    ensures { result ≡ first_executing illegal not_allowed wrong_sizes wrong_preds }
+// The first refusal of executing that applies.
+pub fn executing(
+    illegal: bool,
+    not_allowed: bool,
+    wrong_sizes: bool,
+    wrong_preds: bool,
+) -> Option<Refusal>
+    ensures { first_number result ≡ first_executing illegal not_allowed wrong_sizes wrong_preds }
 {
     if illegal {
-        return NOT_LEGAL;
+        Some(Refusal::NotLegal)
+    } else if not_allowed {
+        Some(Refusal::TargetTooOld)
+    } else if wrong_sizes {
+        Some(Refusal::WrongSizes)
+    } else if wrong_preds {
+        Some(Refusal::WrongPreds)
+    } else {
+        None
     }
-    if not_allowed {
-        return TOO_OLD;
-    }
-    if wrong_sizes {
-        return WRONG_SIZES;
-    }
-    if wrong_preds {
-        return WRONG_PREDS;
-    }
-    NONE
 }
