@@ -3,11 +3,11 @@
 
 ghost use Rattle.std.specs.Prelude.{◌≡◌};
 ghost use Rattle.record.specs.Modifiers.{kind_of, is_eq_ne, is_six, is_unsigned_op, is_float_op, cmp_fits, is_f32, ftz_fits, comparison_fits, instruction_modifiers_fit, modifiers_fit};
-ghost use Rattle.record.specs.Operands.{type_bits, operand_bits, by_width, some_lane, spare_lanes_fit, mask_fits, highest_digit, digit_fits, spare_digit_fits, digits_fit, lanes_fit, sources_fit, choice_fits, instruction_operands_fit, operands_fit, full_mask, default_a, default_b, default_digits};
+ghost use Rattle.record.specs.Operands.{type_bits, operand_bits, by_width, some_lane, spare_lanes_fit, mask_fits, highest_digit, digit_fits, spare_digit_fits, digits_fit, lanes_fit, sources_fit, choice_fits, instruction_operands_fit, operands_fit, full_mask, default_digits};
 
 use record::{
-    Choice, Cmp6, CmpOp, Comparison, DataType, Digits, Double, Half, Instruction, Kind, LaneWidth,
-    Lanes, Mask, Operand, Record, Word,
+    Choice, Cmp6, CmpOp, Comparison, DataType, Digits, Instruction, Kind, LaneWidth, Lanes, Mask,
+    Operand, Record,
 };
 
 // The widths of what the files hold.
@@ -23,71 +23,35 @@ fn kind_of(t: DataType) -> Kind
     ensures { result ≡ kind_of t }
 {
     match t {
-        DataType::B16 => Kind::B,
-        DataType::B32 => Kind::B,
-        DataType::B64 => Kind::B,
-        DataType::U16 => Kind::U,
-        DataType::U32 => Kind::U,
-        DataType::U64 => Kind::U,
-        DataType::S16 => Kind::S,
-        DataType::S32 => Kind::S,
-        DataType::S64 => Kind::S,
-        DataType::F32 => Kind::F,
-        DataType::F64 => Kind::F,
-    }
-}
-
-fn six_is_eq_ne(c: Cmp6) -> bool
-    ensures { result ≡ is_eq_ne (CmpOp.Six c) }
-{
-    match c {
-        Cmp6::Eq => true,
-        Cmp6::Ne => true,
-        Cmp6::Lt => false,
-        Cmp6::Le => false,
-        Cmp6::Gt => false,
-        Cmp6::Ge => false,
+        DataType::B16 | DataType::B32 | DataType::B64 => Kind::B,
+        DataType::U16 | DataType::U32 | DataType::U64 => Kind::U,
+        DataType::S16 | DataType::S32 | DataType::S64 => Kind::S,
+        DataType::F32 | DataType::F64 => Kind::F,
     }
 }
 
 fn is_eq_ne(c: CmpOp) -> bool
     ensures { result ≡ is_eq_ne c }
 {
-    match c {
-        CmpOp::Six(s) => six_is_eq_ne(s),
-        CmpOp::Unsigned(_) => false,
-        CmpOp::Float(_) => false,
-    }
+    matches!(c, CmpOp::Six(Cmp6::Eq | Cmp6::Ne))
 }
 
 fn is_six(c: CmpOp) -> bool
     ensures { result ≡ is_six c }
 {
-    match c {
-        CmpOp::Six(_) => true,
-        CmpOp::Unsigned(_) => false,
-        CmpOp::Float(_) => false,
-    }
+    matches!(c, CmpOp::Six(_))
 }
 
 fn is_unsigned_op(c: CmpOp) -> bool
     ensures { result ≡ is_unsigned_op c }
 {
-    match c {
-        CmpOp::Six(_) => false,
-        CmpOp::Unsigned(_) => true,
-        CmpOp::Float(_) => false,
-    }
+    matches!(c, CmpOp::Unsigned(_))
 }
 
 fn is_float_op(c: CmpOp) -> bool
     ensures { result ≡ is_float_op c }
 {
-    match c {
-        CmpOp::Six(_) => false,
-        CmpOp::Unsigned(_) => false,
-        CmpOp::Float(_) => true,
-    }
+    matches!(c, CmpOp::Float(_))
 }
 
 fn cmp_fits(k: Kind, c: CmpOp) -> bool
@@ -104,19 +68,7 @@ fn cmp_fits(k: Kind, c: CmpOp) -> bool
 fn is_f32(t: DataType) -> bool
     ensures { result ≡ is_f32 t }
 {
-    match t {
-        DataType::B16 => false,
-        DataType::B32 => false,
-        DataType::B64 => false,
-        DataType::U16 => false,
-        DataType::U32 => false,
-        DataType::U64 => false,
-        DataType::S16 => false,
-        DataType::S32 => false,
-        DataType::S64 => false,
-        DataType::F32 => true,
-        DataType::F64 => false,
-    }
+    t == DataType::F32
 }
 
 fn ftz_fits(ftz: bool, stype: DataType) -> bool
@@ -128,23 +80,17 @@ fn ftz_fits(ftz: bool, stype: DataType) -> bool
 fn comparison_fits(s: Comparison) -> bool
     ensures { result ≡ comparison_fits s }
 {
-    let t = s.stype;
-    let cmp = s.cmp;
-    cmp_fits(kind_of(t), cmp) & ftz_fits(s.ftz, t)
+    cmp_fits(kind_of(s.stype), s.cmp) & ftz_fits(s.ftz, s.stype)
 }
 
 fn instruction_modifiers_fit(i: Instruction) -> bool
     ensures { result ≡ instruction_modifiers_fit i }
 {
     match i {
-        Instruction::Arithmetic { .. } => true,
-        Instruction::Vset { .. } => true,
-        Instruction::VsetLanes { .. } => true,
-        Instruction::ArithmeticLanes { .. } => true,
-        Instruction::Set { comparison, .. } => comparison_fits(comparison),
-        Instruction::Setp { comparison, .. } => comparison_fits(comparison),
-        Instruction::Selp { .. } => true,
-        Instruction::Slct { .. } => true,
+        Instruction::Set { comparison, .. } | Instruction::Setp { comparison, .. } => {
+            comparison_fits(comparison)
+        }
+        _ => true,
     }
 }
 
@@ -207,25 +153,16 @@ fn digits_fit(w: LaneWidth, s: Digits) -> bool
 fn lanes_fit(l: Lanes) -> bool
     ensures { result ≡ lanes_fit l }
 {
-    let w = l.width;
-    mask_fits(w, l.mask) & digits_fit(w, l.asel) & digits_fit(w, l.bsel)
+    mask_fits(l.width, l.mask) & digits_fit(l.width, l.asel) & digits_fit(l.width, l.bsel)
 }
 
 fn type_bits(t: DataType) -> u8
     ensures { result ≡ type_bits t }
 {
     match t {
-        DataType::B16 => HALF_BITS,
-        DataType::B32 => WORD_BITS,
-        DataType::B64 => DOUBLE_BITS,
-        DataType::U16 => HALF_BITS,
-        DataType::U32 => WORD_BITS,
-        DataType::U64 => DOUBLE_BITS,
-        DataType::S16 => HALF_BITS,
-        DataType::S32 => WORD_BITS,
-        DataType::S64 => DOUBLE_BITS,
-        DataType::F32 => WORD_BITS,
-        DataType::F64 => DOUBLE_BITS,
+        DataType::B16 | DataType::U16 | DataType::S16 => HALF_BITS,
+        DataType::B32 | DataType::U32 | DataType::S32 | DataType::F32 => WORD_BITS,
+        DataType::B64 | DataType::U64 | DataType::S64 | DataType::F64 => DOUBLE_BITS,
     }
 }
 
@@ -248,34 +185,27 @@ fn by_width(t: DataType, o: Operand) -> bool
 fn sources_fit(s: Comparison) -> bool
     ensures { result ≡ sources_fit s }
 {
-    let t = s.stype;
-    let a = s.a;
-    let b = s.b;
-    by_width(t, a) & by_width(t, b)
+    by_width(s.stype, s.a) & by_width(s.stype, s.b)
 }
 
 fn choice_fits(s: Choice) -> bool
     ensures { result ≡ choice_fits s }
 {
-    let t = s.dtype;
-    let d = s.d;
-    let a = s.a;
-    let b = s.b;
-    by_width(t, d) & by_width(t, a) & by_width(t, b)
+    by_width(s.dtype, s.d) & by_width(s.dtype, s.a) & by_width(s.dtype, s.b)
 }
 
 fn instruction_operands_fit(i: Instruction) -> bool
     ensures { result ≡ instruction_operands_fit i }
 {
     match i {
-        Instruction::Arithmetic { .. } => true,
-        Instruction::Vset { .. } => true,
-        Instruction::VsetLanes { lanes, .. } => lanes_fit(lanes),
-        Instruction::ArithmeticLanes { lanes, .. } => lanes_fit(lanes),
-        Instruction::Set { comparison, .. } => sources_fit(comparison),
-        Instruction::Setp { comparison, .. } => sources_fit(comparison),
-        Instruction::Selp { choice, .. } => choice_fits(choice),
-        Instruction::Slct { choice, .. } => choice_fits(choice),
+        Instruction::Arithmetic { .. } | Instruction::Vset { .. } => true,
+        Instruction::VsetLanes { lanes, .. } | Instruction::ArithmeticLanes { lanes, .. } => {
+            lanes_fit(lanes)
+        }
+        Instruction::Set { comparison, .. } | Instruction::Setp { comparison, .. } => {
+            sources_fit(comparison)
+        }
+        Instruction::Selp { choice, .. } | Instruction::Slct { choice, .. } => choice_fits(choice),
     }
 }
 
@@ -285,16 +215,14 @@ fn instruction_operands_fit(i: Instruction) -> bool
 pub fn modifiers_fit(r: Record) -> bool
     ensures { result ≡ modifiers_fit r }
 {
-    let i = r.instruction;
-    instruction_modifiers_fit(i)
+    instruction_modifiers_fit(r.instruction)
 }
 
 // Operands of the right kind; register numbers and pairs aside.
 pub fn operands_fit(r: Record) -> bool
     ensures { result ≡ operands_fit r }
 {
-    let i = r.instruction;
-    instruction_operands_fit(i)
+    instruction_operands_fit(r.instruction)
 }
 
 // ---- what stands where a mask or a lane selector is left out
@@ -302,57 +230,23 @@ pub fn operands_fit(r: Record) -> bool
 pub fn full_mask(w: LaneWidth) -> Mask
     ensures { result ≡ full_mask w }
 {
-    match w {
-        LaneWidth::Half => Mask {
-            lane0: true,
-            lane1: true,
-            lane2: false,
-            lane3: false,
-        },
-        LaneWidth::Byte => Mask {
-            lane0: true,
-            lane1: true,
-            lane2: true,
-            lane3: true,
-        },
+    let of_four = w == LaneWidth::Byte;
+    Mask {
+        lane0: true,
+        lane1: true,
+        lane2: of_four,
+        lane3: of_four,
     }
 }
 
-fn default_a(w: LaneWidth) -> Digits
-    ensures { result ≡ default_a w }
+fn digits(lane0: u8, lane1: u8, lane2: u8, lane3: u8) -> Digits
+    ensures { result ≡ record { lane0 = lane0; lane1 = lane1; lane2 = lane2; lane3 = lane3 } }
 {
-    match w {
-        LaneWidth::Half => Digits {
-            lane0: 0,
-            lane1: 1,
-            lane2: 0,
-            lane3: 0,
-        },
-        LaneWidth::Byte => Digits {
-            lane0: 0,
-            lane1: 1,
-            lane2: 2,
-            lane3: 3,
-        },
-    }
-}
-
-fn default_b(w: LaneWidth) -> Digits
-    ensures { result ≡ default_b w }
-{
-    match w {
-        LaneWidth::Half => Digits {
-            lane0: 2,
-            lane1: 3,
-            lane2: 0,
-            lane3: 0,
-        },
-        LaneWidth::Byte => Digits {
-            lane0: 4,
-            lane1: 5,
-            lane2: 6,
-            lane3: 7,
-        },
+    Digits {
+        lane0,
+        lane1,
+        lane2,
+        lane3,
     }
 }
 
@@ -360,5 +254,10 @@ fn default_b(w: LaneWidth) -> Digits
 pub fn default_digits(w: LaneWidth, of_b: bool) -> Digits
     ensures { result ≡ default_digits w of_b }
 {
-    if of_b { default_b(w) } else { default_a(w) }
+    match (w, of_b) {
+        (LaneWidth::Half, false) => digits(0, 1, 0, 0),
+        (LaneWidth::Byte, false) => digits(0, 1, 2, 3),
+        (LaneWidth::Half, true) => digits(2, 3, 0, 0),
+        (LaneWidth::Byte, true) => digits(4, 5, 6, 7),
+    }
 }

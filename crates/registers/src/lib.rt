@@ -1,11 +1,15 @@
-// What executing and printing share of registers: one of a lent file, 0 past its end; the low 32 or 16 bits; a bit as a number.
+// What executing and printing share of registers: one of a lent file, 0 past its end; the four files to be read;
+// how many lanes a word has; the low 32 or 16 bits; a bit as a number.
 #![tactic(auto)]
 
 ghost use Rattle.std.specs.Prelude.{◌≡◌, ◌%◌, ◌≤◌, get_or};
-ghost use Rattle.rules.specs.Numbers.{bit, word_size, half_size};
-ghost use Rattle.rules.specs.Executing.{word_of, pred_of};
+ghost use Rattle.record.specs.Registers.{reg};
+ghost use Rattle.record.specs.Registers as held;
+ghost use Rattle.rules.specs.Numbers.{bit, lanes, word_size, half_size};
+ghost use Rattle.rules.specs.Executing.{operand_of};
 
-use record::{Double, Half, Pred, Word};
+use record::{Double, File, Half, LaneWidth, Numbered, Operand, Pred, Word};
+use std::marker::Model;
 
 // How many values a word has.
 pub const WORD_SIZE: u64 = 4294967296;
@@ -13,34 +17,63 @@ pub const WORD_SIZE: u64 = 4294967296;
 // How many values a half has.
 pub const HALF_SIZE: u64 = 65536;
 
-pub fn word_at(words: &[u32], w: Word) -> u32
-    ensures { result ≡ word_of words.now w }
+// One of a lent file, 0 past its end.
+pub fn at<R: Numbered>(file: &[R::Value], x: R) -> R::Value
+    ensures { result ≡ get_or file.now (R.number x) R.ZERO }
 {
-    let i = w.0 as usize;
-    if i < words.len() { words[i] } else { 0 }
+    file.get(x.number() as usize).copied().unwrap_or(R::ZERO)
 }
 
-pub fn half_at(halves: &[u16], h: Half) -> u16
-    ensures { result ≡ get_or halves.now h.0 0 }
-{
-    let i = h.0 as usize;
-    if i < halves.len() { halves[i] } else { 0 }
+// The four lent files, to be read.
+#[derive(Drop)]
+pub struct Files<'a> {
+    pub words: &'a [u32],
+    pub halves: &'a [u16],
+    pub doubles: &'a [u64],
+    pub preds: &'a [u8],
 }
 
-pub fn double_at(doubles: &[u64], d: Double) -> u64
-    ensures { result ≡ get_or doubles.now d.0 0 }
-{
-    let i = d.0 as usize;
-    if i < doubles.len() { doubles[i] } else { 0 }
+impl<'a> Model for Files<'a> {
+    ghost Value = { held.Files };
+
+    ghost view = { λ s. held.files s.words.now s.halves.now s.doubles.now s.preds.now };
 }
 
-pub fn pred_at(preds: &[u8], p: Pred) -> u8
-    ensures { result ≡ pred_of preds.now p }
-{
-    let i = p.0 as usize;
-    if i < preds.len() { preds[i] } else { 0 }
+impl Files<'_> {
+    // One of a file, by its number there.
+    pub fn value(&self, file: File, number: u16) -> u64
+        ensures { result ≡ held.at self.now (reg file number) }
+    {
+        match file {
+            File::Words => at(self.words, Word(number)) as u64,
+            File::Halves => at(self.halves, Half(number)) as u64,
+            File::Doubles => at(self.doubles, Double(number)),
+            File::Preds => at(self.preds, Pred(number)) as u64,
+        }
+    }
+
+    pub fn operand(&self, o: Operand) -> u64
+        ensures { result ≡ operand_of self.now o }
+    {
+        match o {
+            Operand::Word(w) => at(self.words, w) as u64,
+            Operand::Half(h) => at(self.halves, h) as u64,
+            Operand::Double(d) => at(self.doubles, d),
+        }
+    }
 }
 
+// How many lanes a word has.
+pub fn lane_count(w: LaneWidth) -> u8
+    ensures { result ≡ lanes w }
+{
+    match w {
+        LaneWidth::Half => 2,
+        LaneWidth::Byte => 4,
+    }
+}
+
+// Not one with low_half, which is no plainer: it takes a trait for the size, its law and the cast, for one line each.
 pub fn low_word(x: u64) -> u32
     ensures { result ≡ x % word_size }
 {
@@ -57,5 +90,5 @@ pub fn low_half(x: u64) -> u16
 pub fn bit_of(t: bool) -> u32
     ensures { (result ≡ bit t) × (result ≤ 1) }
 {
-    if t { 1 } else { 0 }
+    u32::from(t)
 }

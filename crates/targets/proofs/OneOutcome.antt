@@ -6,7 +6,8 @@ use mathlib.Core.Bool.{Bool}
 use mathlib.Core.Path.{◌≡◌}
 use Rattle.base.specs.Promise.{one_outcome}
 use Rattle.record.specs.declared.SlctType.{SlctType}
-use Rattle.targets.specs.declared.Named.{Named}
+use Rattle.std.specs.Prelude.{Option}
+use Rattle.record.specs.declared.Target.{Target}
 use Rattle.targets.proofs.allows.Kinds as allows-kinds
 use Rattle.targets.proofs.allows.Reads as allows
 use Rattle.targets.proofs.flushes.Kinds as flushes-kinds
@@ -32,6 +33,6 @@ pub slct_type_at_one_outcome :
 slct_type_at_one_outcome κs a x y s t p q = one_outcome p q
 
 pub target_of_one_outcome :
-    (κs : Lfts 1) (a : Dens κs target-of-kinds.ps) (x y : Named) (s t : AtExit (ended_of 1 target-of-kinds.ps target-of-kinds.r) κs)
+    (κs : Lfts 1) (a : Dens κs target-of-kinds.ps) (x y : Option Target) (s t : AtExit (ended_of 1 target-of-kinds.ps target-of-kinds.r) κs)
     → target-of.Post κs a x s → target-of.Post κs a y t → x ≡ y
 target_of_one_outcome κs a x y s t p q = one_outcome p q
