@@ -11,6 +11,10 @@ use Rattle.rules.specs.BytePlaces.{Begins, FirstWrong}
 not_true : false ≡ true → ⊥
 not_true e = let o : ◌≡◌ {A = ℕ} 0 1 = cc in omega arith
 
+-- what a test answers is what t says
+abbrev pub Gives : (ℕ → Bool → Type 0) → (ℕ → Bool) → Type 0
+Gives answers t = (k : ℕ) (b : Bool) → answers k b → b ≡ t k
+
 module _ (test : ℕ → Bool) where
   -- the test holds of the first k of n, and fails of one more, or there is no more
   unfoldable pub turns_at : ℕ → ℕ → Bool
@@ -20,6 +24,10 @@ module _ (test : ℕ → Bool) where
   unfoldable pub searched : ℕ → ℕ → ℕ
   searched k zero = k
   searched k (suc m) = cond (test (suc k)) (searched (suc k) m) k
+
+  -- the place that is guessed, if the test turns there, or the one that is searched
+  unfoldable pub first_wrong_by : ℕ → ℕ → ℕ
+  first_wrong_by n guess = cond (turns_at n guess) guess (searched 0 n)
 
   -- ---- one turn of the loop
 

@@ -8,22 +8,15 @@ ghost use Rattle.lines.specs.Until.{length_to};
 pub fn until(s: &[u8], at: usize, b: u8) -> usize
     ensures { (result ≡ at + length_to b (drop at s.now)) × (result ≤ at + (length s.now - at)) }
 {
-    let mut i = at;
-    while i < s.len() {
-        if s[i] == b {
-            return i;
-        }
-        i += 1;
-    }
-    i
+    let Some(tail) = s.get(at..) else {
+        return at;
+    };
+    at + tail.iter().take_while(|x| **x != b).count()
 }
 
 // What is left of so many bytes when so many are gone.
 pub fn left(size: usize, gone: usize) -> usize
     ensures { result ≡ size - gone }
 {
-    if gone < size {
-        return size - gone;
-    }
-    0
+    size.saturating_sub(gone)
 }

@@ -10,4 +10,5 @@ returns-then-n-lt10 t c =
     rw (one_digit _ c.if-n-lt10.true, ← e) c.push.ensures
 
 pub returns : goal.returns
-returns t c = rw (more_digits _ c.if-n-lt10.false, ← c.digit-2.ensures) (c.put_decimal-next.ensures then c.push-2.ensures)
+returns t c =
+    rw (more_digits _ c.if-n-lt10.false, ← c.digit-2.ensures) (c.put_decimal-next.ensures then c.push-2.ensures)
