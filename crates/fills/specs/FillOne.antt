@@ -1,5 +1,5 @@
 -- What a reader needs besides: operands spell at most one instruction with a given head, and none where they are not taken. Assumes nothing.
-use Rattle.std.specs.Prelude.{ℕ, ◌≡◌, refl, List}
+use Rattle.std.specs.Prelude.{ℕ, ◌≡◌, refl, List, Err, Ok, Result}
 use Rattle.std.proofs.Common.{arith, sym, ap, ◌∙◌}
 use Rattle.record.specs.declared.Combination.{Combination}
 use Rattle.record.specs.declared.Combination.TheVariants.{Alone, With}
@@ -17,19 +17,18 @@ use Rattle.tree.specs.Seen.{seen_operands}
 use Rattle.tree.specs.Blank.{no_word, no_pred, no_operand, blank, blank_form, blank_scalar, blank_combination, blank_comparison}
 use Rattle.fills.specs.Fills.{filled_of}
 use Rattle.fills.specs.FillComplete.{fill_complete}
-use Rattle.fills.specs.declared.Filled.TheVariants.{Full, Wrong}
 
-full_one : (i j : Instruction) → Full i ≡ Full j → i ≡ j
+full_one : (i j : Instruction) → ◌≡◌ {A = Result Instruction ℕ} (Ok i) (Ok j) → i ≡ j
 full_one i j e = cc
 
-never : (i : Instruction) (k : ℕ) → Wrong k ≡ Full i → ⊥
+never : (i : Instruction) (k : ℕ) → Err k ≡ Ok i → ⊥
 never i k e = let z : ◌≡◌ {A = ℕ} 0 1 = cc in omega arith
 
 pub spell_one : (i j : Instruction) (os : List OperandTree) → blank i ≡ blank j → OperandsSpell os i → OperandsSpell os j → i ≡ j
 spell_one i j os e g h =
     full_one i j (sym (fill_complete i os g) ∙ ap (λ (x : Instruction). filled_of x (seen_operands os)) e ∙ fill_complete j os h)
 
-pub wrong_none : (i j : Instruction) (os : List OperandTree) (k : ℕ) → filled_of i (seen_operands os) ≡ Wrong k → blank j ≡ i → OperandsSpell os j → ⊥
+pub wrong_none : (i j : Instruction) (os : List OperandTree) (k : ℕ) → filled_of i (seen_operands os) ≡ Err k → blank j ≡ i → OperandsSpell os j → ⊥
 wrong_none i j os k w e h = never j k (sym w ∙ ap (λ (x : Instruction). filled_of x (seen_operands os)) (sym e) ∙ fill_complete j os h)
 
 -- ==== a blank instruction is its own blank

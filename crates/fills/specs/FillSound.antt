@@ -1,6 +1,7 @@
 -- What is taken into an instruction spells it. Each definition below says of an answer what the operands then are. Assumes nothing.
-use Rattle.std.specs.Prelude.{ℕ, zero, suc, ◌<◌, ◌≡◌, refl, Bool, true, false, cond, List, [], ◌∷◌, ◌++◌, map, eqb, length, take, get_or, replicate}
+use Rattle.std.specs.Prelude.{ℕ, zero, suc, ◌<◌, ◌≡◌, refl, Bool, true, false, cond, List, [], ◌∷◌, ◌++◌, map, eqb, length, take, get_or, replicate, Err, None, Ok, Option, Result, Some}
 use Rattle.std.proofs.Common.{arith, sym, ap, ap₂, subst, ◌∙◌, eq-eqb, eqb-true}
+use Rattle.std.specs.Option.{option_zip}
 use Rattle.std.proofs.lemmas.Bool.{lt-leb}
 use Rattle.signs.specs.Lists.{tab}
 use Rattle.base.specs.Pack.{code_of}
@@ -48,39 +49,29 @@ use Rattle.tree.specs.declared.Tree.{Tree}
 use Rattle.kinds.specs.Registers.{bare_word, bare_pred, bare_operand, condition_of, destination_of}
 use Rattle.names.specs.Back.{selector_of}
 use Rattle.masks.specs.Masks.{mask_of, digits_named}
-use Rattle.fills.specs.Fills.{untaken, tree_at, last_by, part_by, selected_from, start_from, merge_form, combine_form, form_from, scalar_end, scalar_by, scalar_from, masked_by, masked_from, laned_by, laned_from, lanes_with, lanes_by, lanes_from, combination_from, comparison_by, comparison_from, choice_by, choice_from, arithmetic_from, vset_from, vset_lanes_from, arithmetic_lanes_from, set_from, setp_from, pred_last, selp_from, slct_from, filled_of}
+use Rattle.fills.specs.Fills.{untaken, tree_at, last_by, part_by, selected_from, start_from, merge_form, combine_form, form_from, scalar_end, scalar_by, scalar_from, masked_from, laned_from, lanes_with, lanes_by, lanes_from, combination_from, comparison_by, comparison_from, choice_by, choice_from, arithmetic_from, vset_from, vset_lanes_from, arithmetic_lanes_from, set_from, setp_from, selp_from, slct_from, filled_of}
 use Rattle.names.specs.Back.{selector_sound}
 use Rattle.masks.specs.MaskLaws.{MaskIs, mask_sound, mask_known, DigitsIs, digits_sound, digits_known}
-use Rattle.kinds.specs.declared.WordFound.{WordFound}
-use Rattle.kinds.specs.declared.PredFound.{PredFound}
-use Rattle.kinds.specs.declared.OperandFound.{OperandFound}
-use Rattle.kinds.specs.declared.ConditionFound.{ConditionFound}
-use Rattle.kinds.specs.declared.DestinationFound.{DestinationFound}
-use Rattle.names.specs.declared.SelectorName.{SelectorName}
-use Rattle.masks.specs.declared.MaskFound.{MaskFound}
-use Rattle.masks.specs.declared.DigitsFound.{DigitsFound}
-use Rattle.fills.specs.declared.SelectedFound.{SelectedFound}
 use Rattle.fills.specs.declared.Start.{Start}
 use Rattle.fills.specs.declared.Start.TheVariants as start
-use Rattle.fills.specs.declared.StartFound.{StartFound}
-use Rattle.fills.specs.declared.LastFound.{LastFound}
-use Rattle.fills.specs.declared.LastPred.{LastPred}
-use Rattle.fills.specs.declared.FormFound.{FormFound}
-use Rattle.fills.specs.declared.ScalarFound.{ScalarFound}
-use Rattle.fills.specs.declared.MaskedFound.{MaskedFound}
-use Rattle.fills.specs.declared.LanedFound.{LanedFound}
-use Rattle.fills.specs.declared.LanesFound.{LanesFound}
-use Rattle.fills.specs.declared.CombinationFound.{CombinationFound}
-use Rattle.fills.specs.declared.ComparisonFound.{ComparisonFound}
-use Rattle.fills.specs.declared.ChoiceFound.{ChoiceFound}
-use Rattle.fills.specs.declared.Filled.{Filled}
-use Rattle.fills.specs.declared.Filled.TheVariants.{Full, Wrong}
+use Rattle.record.specs.declared.Condition.{Condition}
+use Rattle.record.specs.declared.Mask.{Mask}
+use Rattle.record.specs.declared.Operand.{Operand}
+use Rattle.record.specs.declared.Selected.{Selected}
+use Rattle.record.specs.declared.Selector.{Selector}
 
 -- ==== one operand
 
-abbrev WordIs : OperandTree → WordFound → Type 0
-WordIs o (WordFound.Is w) = o ≡ bare (r w)
-WordIs o WordFound.Not = Unit {0}
+-- what the operand is, if this was found in it
+abbrev FoundIs : {A : Type 0} → (A → OperandTree) → OperandTree → Option A → Type 0
+FoundIs tree o (Some x) = o ≡ tree x
+FoundIs tree o None = Unit {0}
+
+abbrev word_tree : Word → OperandTree
+word_tree w = bare (r w)
+
+abbrev WordIs : OperandTree → Option Word → Type 0
+WordIs = FoundIs word_tree
 
 word_is : (o : OperandTree) → WordIs o (bare_word (seen_operand o))
 word_is (inverted q) = tt
@@ -91,9 +82,11 @@ word_is (bare (reg Doubles n)) = tt
 word_is (bare (reg Preds n)) = tt
 word_is (part q n) = tt
 
-abbrev PredIs : OperandTree → PredFound → Type 0
-PredIs o (PredFound.Is q) = o ≡ bare (p q)
-PredIs o PredFound.Not = Unit {0}
+abbrev pred_tree : Pred → OperandTree
+pred_tree q = bare (p q)
+
+abbrev PredIs : OperandTree → Option Pred → Type 0
+PredIs = FoundIs pred_tree
 
 pred_is_lem : (o : OperandTree) → PredIs o (bare_pred (seen_operand o))
 pred_is_lem (inverted q) = tt
@@ -104,9 +97,8 @@ pred_is_lem (bare (reg Doubles n)) = tt
 pred_is_lem (bare (reg Preds n)) = refl
 pred_is_lem (part q n) = tt
 
-abbrev OperandIs : OperandTree → OperandFound → Type 0
-OperandIs o (OperandFound.Is x) = o ≡ bare (operand_place x)
-OperandIs o OperandFound.Not = Unit {0}
+abbrev OperandIs : OperandTree → Option Operand → Type 0
+OperandIs = FoundIs (λ (x : Operand). bare (operand_place x))
 
 operand_is : (o : OperandTree) → OperandIs o (bare_operand (seen_operand o))
 operand_is (inverted q) = tt
@@ -117,9 +109,8 @@ operand_is (bare (reg Doubles n)) = refl
 operand_is (bare (reg Preds n)) = tt
 operand_is (part q n) = tt
 
-abbrev ConditionIs : OperandTree → ConditionFound → Type 0
-ConditionIs o (ConditionFound.Is c) = o ≡ condition_tree c
-ConditionIs o ConditionFound.Not = Unit {0}
+abbrev ConditionIs : OperandTree → Option Condition → Type 0
+ConditionIs = FoundIs condition_tree
 
 condition_is : (o : OperandTree) → ConditionIs o (condition_of (seen_operand o))
 condition_is (inverted (reg Words n)) = tt
@@ -133,15 +124,17 @@ condition_is (bare (reg Doubles n)) = tt
 condition_is (bare (reg Preds n)) = refl
 condition_is (part q n) = tt
 
-abbrev DestinationIs : OperandTree → DestinationFound → Type 0
-DestinationIs o (DestinationFound.Is d) = o ≡ destination_tree d
-DestinationIs o DestinationFound.Not = Unit {0}
+abbrev DestinationIs : OperandTree → Option Destination → Type 0
+DestinationIs = FoundIs destination_tree
 
 destination_is : (o : OperandTree) → DestinationIs o (destination_of (seen_operand o))
 destination_is (inverted q) = tt
-destination_is (pair (at (reg Words n)) s) = tt
-destination_is (pair (at (reg Halves n)) s) = tt
-destination_is (pair (at (reg Doubles n)) s) = tt
+destination_is (pair (at (reg Words n)) (at s)) = tt
+destination_is (pair (at (reg Words n)) nothing) = tt
+destination_is (pair (at (reg Halves n)) (at s)) = tt
+destination_is (pair (at (reg Halves n)) nothing) = tt
+destination_is (pair (at (reg Doubles n)) (at s)) = tt
+destination_is (pair (at (reg Doubles n)) nothing) = tt
 destination_is (pair (at (reg Preds n)) (at (reg Words m))) = tt
 destination_is (pair (at (reg Preds n)) (at (reg Halves m))) = tt
 destination_is (pair (at (reg Preds n)) (at (reg Doubles m))) = tt
@@ -158,9 +151,8 @@ destination_is (bare (reg Doubles n)) = tt
 destination_is (bare (reg Preds n)) = refl
 destination_is (part q n) = tt
 
-abbrev SelectedIs : OperandTree → SelectedFound → Type 0
-SelectedIs o (SelectedFound.Is s) = o ≡ selected_tree s
-SelectedIs o SelectedFound.Not = Unit {0}
+abbrev SelectedIs : OperandTree → Option Selected → Type 0
+SelectedIs = FoundIs selected_tree
 
 selected_is : (o : OperandTree) → GoodOperand o → SelectedIs o (selected_from (seen_operand o))
 selected_is (inverted q) g = tt
@@ -171,20 +163,20 @@ selected_is (bare (reg Doubles n)) g = tt
 selected_is (bare (reg Preds n)) g = tt
 selected_is (part (reg Words n) w) g = go (selector_of (code_of w)) refl
   where
-    go : (f : SelectorName) → selector_of (code_of w) ≡ f → SelectedIs (part (reg Words n) w) (part_by (WordFound.Is (record { 0 = n })) f)
-    go (SelectorName.Is s) e =
+    go : (f : Option Selector) → selector_of (code_of w) ≡ f → SelectedIs (part (reg Words n) w) (part_by (Some (record { 0 = n })) f)
+    go (Some s) e =
         let c = selector_sound (code_of w) s e in
         let k = short_name (selector_name s) c.short in
         ap (part (reg Words n)) (code_known w (selector_name s) g.1 k.0 k.1 c.code)
-    go SelectorName.Not e = tt
+    go None e = tt
 selected_is (part (reg Halves n) w) g = tt
 selected_is (part (reg Doubles n) w) g = tt
 selected_is (part (reg Preds n) w) g = tt
 
 -- d of the forms with 2 and 4: bare or with its mask written
-abbrev MaskedIs : LaneWidth → OperandTree → MaskedFound → Type 0
-MaskedIs w o (MaskedFound.Is m) = OneOf o (mask_tree w m.word m.mask) (part (r m.word) (mask_name w m.mask)) × (mask_fits w m.mask ≡ true)
-MaskedIs w o MaskedFound.Not = Unit {0}
+abbrev MaskedIs : LaneWidth → OperandTree → Option (Word × Mask) → Type 0
+MaskedIs w o (Some d) = OneOf o (mask_tree w d.0 d.1) (part (r d.0) (mask_name w d.1)) × (mask_fits w d.1 ≡ true)
+MaskedIs w o None = Unit {0}
 
 masked_is : (w : LaneWidth) (o : OperandTree) → GoodOperand o → MaskedIs w o (masked_from w (seen_operand o))
 masked_is w (inverted q) g = tt
@@ -196,18 +188,18 @@ masked_is w (bare (reg Doubles n)) g = tt
 masked_is w (bare (reg Preds n)) g = tt
 masked_is w (part (reg Words n) k) g = go (mask_of w (code_of k)) (mask_sound w (code_of k))
   where
-    go : (f : MaskFound) → MaskIs w (code_of k) f → MaskedIs w (part (reg Words n) k) (masked_by (WordFound.Is (record { 0 = n })) f)
-    go (MaskFound.Is m) e = (as_written (ap (part (reg Words n)) (mask_known w m k g.1 e.0)), e.1)
-    go MaskFound.Not e = tt
+    go : (f : Option Mask) → MaskIs w (code_of k) f → MaskedIs w (part (reg Words n) k) (option_zip (Some (record { 0 = n })) f)
+    go (Some m) e = (as_written (ap (part (reg Words n)) (mask_known w m k g.1 e.0)), e.1)
+    go None e = tt
 masked_is w (part (reg Halves n) k) g = tt
 masked_is w (part (reg Doubles n) k) g = tt
 masked_is w (part (reg Preds n) k) g = tt
 
 -- a and b of the forms with 2 and 4: bare or with the selector written
-abbrev LanedIs : LaneWidth → Digits → OperandTree → LanedFound → Type 0
-LanedIs w default o (LanedFound.Is l) =
-    OneOf o (digits_tree w default l.word l.digits) (part (r l.word) (digits_name w l.digits)) × (digits_fit w l.digits ≡ true)
-LanedIs w default o LanedFound.Not = Unit {0}
+abbrev LanedIs : LaneWidth → Digits → OperandTree → Option (Word × Digits) → Type 0
+LanedIs w default o (Some a) =
+    OneOf o (digits_tree w default a.0 a.1) (part (r a.0) (digits_name w a.1)) × (digits_fit w a.1 ≡ true)
+LanedIs w default o None = Unit {0}
 
 same_itself : (s : Digits) → same_digits s s ≡ true
 same_itself s =
@@ -222,9 +214,9 @@ laned_is w s f (bare (reg Doubles n)) g = tt
 laned_is w s f (bare (reg Preds n)) g = tt
 laned_is w s f (part (reg Words n) k) g = go (digits_named w (code_of k)) (digits_sound w (code_of k))
   where
-    go : (d : DigitsFound) → DigitsIs w (code_of k) d → LanedIs w s (part (reg Words n) k) (laned_by (WordFound.Is (record { 0 = n })) d)
-    go (DigitsFound.Is t) e = (as_written (ap (part (reg Words n)) (digits_known w t k g.1 e.0)), e.1)
-    go DigitsFound.Not e = tt
+    go : (d : Option Digits) → DigitsIs w (code_of k) d → LanedIs w s (part (reg Words n) k) (option_zip (Some (record { 0 = n })) d)
+    go (Some t) e = (as_written (ap (part (reg Words n)) (digits_known w t k g.1 e.0)), e.1)
+    go None e = tt
 laned_is w s f (part (reg Halves n) k) g = tt
 laned_is w s f (part (reg Doubles n) k) g = tt
 laned_is w s f (part (reg Preds n) k) g = tt
@@ -281,156 +273,144 @@ listed_by_lem os n e = listed os ∙ ap (λ (k : ℕ). tab k (nth os)) e
 
 -- ==== what opcodes share
 
-abbrev LastIs : List OperandTree → LastFound → Type 0
-LastIs os (LastFound.Is w) = os ≡ nth os 0 ∷ nth os 1 ∷ nth os 2 ∷ bare (r w) ∷ []
-LastIs os (LastFound.Wrong k) = Unit {0}
+abbrev LastIs : {A : Type 0} → (A → OperandTree) → List OperandTree → Result A ℕ → Type 0
+LastIs tree os (Ok c) = os ≡ nth os 0 ∷ nth os 1 ∷ nth os 2 ∷ tree c ∷ []
+LastIs tree os (Err k) = Unit {0}
 
-last_is : (os : List OperandTree) (c : WordFound) → WordIs (nth os 3) c → LastIs os (last_by (length os) c)
-last_is os WordFound.Not e = tt
-last_is os (WordFound.Is w) e = go (eqb (length os) 4) refl
+last_is : {A : Type 0} (tree : A → OperandTree) (os : List OperandTree) (c : Option A) → FoundIs tree (nth os 3) c → LastIs tree os (last_by (length os) c)
+last_is tree os None e = tt
+last_is tree os (Some c) e = go (eqb (length os) 4) refl
   where
-    go : (t : Bool) → eqb (length os) 4 ≡ t → LastIs os (cond t (LastFound.Is w) (LastFound.Wrong 4))
+    go : (t : Bool) → eqb (length os) 4 ≡ t → LastIs tree os (cond t (Ok c) (Err 4))
     go true f = listed_by_lem os 4 (eqb-true (length os) 4 f) ∙ ap (λ (x : OperandTree). nth os 0 ∷ nth os 1 ∷ nth os 2 ∷ x ∷ []) e
     go false f = tt
 
-abbrev LastPredIs : List OperandTree → LastPred → Type 0
-LastPredIs os (LastPred.Is c) = os ≡ nth os 0 ∷ nth os 1 ∷ nth os 2 ∷ bare (p c) ∷ []
-LastPredIs os (LastPred.Wrong k) = Unit {0}
+abbrev StartIs : Form → OperandTree → Option Start → Type 0
+StartIs f o (Some (start.Plain d)) = (form.Plain no_word ≡ blank_form f) × (o ≡ bare (r d))
+StartIs f o (Some (start.Merge d s)) = (form.Plain no_word ≡ blank_form f) × (o ≡ part (r d) (selector_name s))
+StartIs f o (Some (start.Combine op d)) = (form.Combine op no_word no_word ≡ blank_form f) × (o ≡ bare (r d))
+StartIs f o None = Unit {0}
 
-last_pred_is : (os : List OperandTree) (c : PredFound) → PredIs (nth os 3) c → LastPredIs os (pred_last (length os) c)
-last_pred_is os PredFound.Not e = tt
-last_pred_is os (PredFound.Is c) e = go (eqb (length os) 4) refl
-  where
-    go : (t : Bool) → eqb (length os) 4 ≡ t → LastPredIs os (cond t (LastPred.Is c) (LastPred.Wrong 4))
-    go true f = listed_by_lem os 4 (eqb-true (length os) 4 f) ∙ ap (λ (x : OperandTree). nth os 0 ∷ nth os 1 ∷ nth os 2 ∷ x ∷ []) e
-    go false f = tt
+start_is : (f : Form) (o : OperandTree) (d : Option Selected) → SelectedIs o d → StartIs f o (start_from f d)
+start_is f o None e = tt
+start_is (form.Plain d) o (Some (selected.Whole w)) e = (refl, e)
+start_is (form.Plain d) o (Some (selected.Part w s)) e = (refl, e)
+start_is (form.Merge d sel c) o (Some (selected.Whole w)) e = (refl, e)
+start_is (form.Merge d sel c) o (Some (selected.Part w s)) e = (refl, e)
+start_is (form.Combine op d c) o (Some (selected.Whole w)) e = (refl, e)
+start_is (form.Combine op d c) o (Some (selected.Part w s)) e = tt
 
-abbrev StartIs : Form → OperandTree → StartFound → Type 0
-StartIs f o (StartFound.Is (start.Plain d)) = (form.Plain no_word ≡ blank_form f) × (o ≡ bare (r d))
-StartIs f o (StartFound.Is (start.Merge d s)) = (form.Plain no_word ≡ blank_form f) × (o ≡ part (r d) (selector_name s))
-StartIs f o (StartFound.Is (start.Combine op d)) = (form.Combine op no_word no_word ≡ blank_form f) × (o ≡ bare (r d))
-StartIs f o StartFound.Not = Unit {0}
+abbrev FormIs : List OperandTree → Form → Result Form ℕ → Type 0
+FormIs os f (Ok g) = (blank_form g ≡ blank_form f) × (os ≡ form_tree g ∷ nth os 1 ∷ nth os 2 ∷ form_last g)
+FormIs os f (Err k) = Unit {0}
 
-start_is : (f : Form) (o : OperandTree) (d : SelectedFound) → SelectedIs o d → StartIs f o (start_from f d)
-start_is f o SelectedFound.Not e = tt
-start_is (form.Plain d) o (SelectedFound.Is (selected.Whole w)) e = (refl, e)
-start_is (form.Plain d) o (SelectedFound.Is (selected.Part w s)) e = (refl, e)
-start_is (form.Merge d sel c) o (SelectedFound.Is (selected.Whole w)) e = (refl, e)
-start_is (form.Merge d sel c) o (SelectedFound.Is (selected.Part w s)) e = (refl, e)
-start_is (form.Combine op d c) o (SelectedFound.Is (selected.Whole w)) e = (refl, e)
-start_is (form.Combine op d c) o (SelectedFound.Is (selected.Part w s)) e = tt
-
-abbrev FormIs : List OperandTree → Form → FormFound → Type 0
-FormIs os f (FormFound.Is g) = (blank_form g ≡ blank_form f) × (os ≡ form_tree g ∷ nth os 1 ∷ nth os 2 ∷ form_last g)
-FormIs os f (FormFound.Wrong k) = Unit {0}
-
-form_is : (os : List OperandTree) (f : Form) (s : Start) (c : WordFound) → StartIs f (nth os 0) (StartFound.Is s) → WordIs (nth os 3) c → FormIs os f (form_from s (length os) c)
+form_is : (os : List OperandTree) (f : Form) (s : Start) (c : Option Word) → StartIs f (nth os 0) (Some s) → WordIs (nth os 3) c → FormIs os f (form_from s (length os) c)
 form_is os f (start.Plain d) c e h = go (eqb (length os) 3) refl
   where
-    go : (t : Bool) → eqb (length os) 3 ≡ t → FormIs os f (cond t (FormFound.Is (form.Plain d)) (FormFound.Wrong 3))
+    go : (t : Bool) → eqb (length os) 3 ≡ t → FormIs os f (cond t (Ok (form.Plain d)) (Err 3))
     go true g = (e.0, listed_by_lem os 3 (eqb-true (length os) 3 g) ∙ ap (λ (x : OperandTree). x ∷ nth os 1 ∷ nth os 2 ∷ []) e.1)
     go false g = tt
-form_is os f (start.Merge d s) c e h = go (last_by (length os) c) (last_is os c h)
+form_is os f (start.Merge d s) c e h = go (last_by (length os) c) (last_is word_tree os c h)
   where
-    go : (l : LastFound) → LastIs os l → FormIs os f (merge_form d s l)
-    go (LastFound.Is w) k = (e.0, k ∙ ap (λ (x : OperandTree). x ∷ nth os 1 ∷ nth os 2 ∷ bare (r w) ∷ []) e.1)
-    go (LastFound.Wrong n) k = tt
-form_is os f (start.Combine op d) c e h = go (last_by (length os) c) (last_is os c h)
+    go : (l : Result Word ℕ) → LastIs word_tree os l → FormIs os f (merge_form d s l)
+    go (Ok w) k = (e.0, k ∙ ap (λ (x : OperandTree). x ∷ nth os 1 ∷ nth os 2 ∷ bare (r w) ∷ []) e.1)
+    go (Err n) k = tt
+form_is os f (start.Combine op d) c e h = go (last_by (length os) c) (last_is word_tree os c h)
   where
-    go : (l : LastFound) → LastIs os l → FormIs os f (combine_form op d l)
-    go (LastFound.Is w) k = (e.0, k ∙ ap (λ (x : OperandTree). x ∷ nth os 1 ∷ nth os 2 ∷ bare (r w) ∷ []) e.1)
-    go (LastFound.Wrong n) k = tt
+    go : (l : Result Word ℕ) → LastIs word_tree os l → FormIs os f (combine_form op d l)
+    go (Ok w) k = (e.0, k ∙ ap (λ (x : OperandTree). x ∷ nth os 1 ∷ nth os 2 ∷ bare (r w) ∷ []) e.1)
+    go (Err n) k = tt
 
-abbrev ScalarIs : List OperandTree → Scalar → ScalarFound → Type 0
-ScalarIs os s (ScalarFound.Is t) =
+abbrev ScalarIs : List OperandTree → Scalar → Result Scalar ℕ → Type 0
+ScalarIs os s (Ok t) =
     (blank_scalar t ≡ blank_scalar s) × (os ≡ form_tree t.form ∷ selected_tree t.a ∷ selected_tree t.b ∷ form_last t.form)
-ScalarIs os s (ScalarFound.Wrong k) = Unit {0}
+ScalarIs os s (Err k) = Unit {0}
 
-scalar_by_lem : (os : List OperandTree) (s : Scalar) (d : StartFound) (a b : SelectedFound) (c : WordFound)
+scalar_by_lem : (os : List OperandTree) (s : Scalar) (d : Option Start) (a b : Option Selected) (c : Option Word)
     → StartIs s.form (nth os 0) d → SelectedIs (nth os 1) a → SelectedIs (nth os 2) b → WordIs (nth os 3) c → ScalarIs os s (scalar_by s (length os) d a b c)
-scalar_by_lem os s StartFound.Not a b c e g h k = tt
-scalar_by_lem os s (StartFound.Is d) SelectedFound.Not b c e g h k = tt
-scalar_by_lem os s (StartFound.Is d) (SelectedFound.Is a) SelectedFound.Not c e g h k = tt
-scalar_by_lem os s (StartFound.Is d) (SelectedFound.Is a) (SelectedFound.Is b) c e g h k = go (form_from d (length os) c) (form_is os s.form d c e k)
+scalar_by_lem os s None a b c e g h k = tt
+scalar_by_lem os s (Some d) None b c e g h k = tt
+scalar_by_lem os s (Some d) (Some a) None c e g h k = tt
+scalar_by_lem os s (Some d) (Some a) (Some b) c e g h k = go (form_from d (length os) c) (form_is os s.form d c e k)
   where
-    go : (f : FormFound) → FormIs os s.form f → ScalarIs os s (scalar_end s f a b)
-    go (FormFound.Is f) l = (
+    go : (f : Result Form ℕ) → FormIs os s.form f → ScalarIs os s (scalar_end s f a b)
+    go (Ok f) l = (
       ap (λ (x : Form). record { atype = s.atype; btype = s.btype; form = x; a = selected.Whole no_word; b = selected.Whole no_word }) l.0,
       l.1 ∙ ap₂ (λ (x y : OperandTree). form_tree f ∷ x ∷ y ∷ form_last f) g h,
     )
-    go (FormFound.Wrong n) l = tt
+    go (Err n) l = tt
 
 record LanesSpelled (os : List OperandTree) (l m : Lanes) : Type 0 where
   spelled : Spelled os (lanes_trees m) (written_lanes m)
   named : lanes_fit m ≡ true
   head : blank_lanes m ≡ blank_lanes l
 
-abbrev LanesIs : List OperandTree → Lanes → LanesFound → Type 0
-LanesIs os l (LanesFound.Is m) = LanesSpelled os l m
-LanesIs os l (LanesFound.Wrong k) = Unit {0}
+abbrev LanesIs : List OperandTree → Lanes → Result Lanes ℕ → Type 0
+LanesIs os l (Ok m) = LanesSpelled os l m
+LanesIs os l (Err k) = Unit {0}
 
-lanes_by_lem : (os : List OperandTree) (l : Lanes) (d : MaskedFound) (a b : LanedFound) (c : LastFound)
-    → MaskedIs l.width (nth os 0) d → LanedIs l.width (default_a l.width) (nth os 1) a → LanedIs l.width (default_b l.width) (nth os 2) b → LastIs os c
+lanes_by_lem : (os : List OperandTree) (l : Lanes) (d : Option (Word × Mask)) (a b : Option (Word × Digits)) (c : Result Word ℕ)
+    → MaskedIs l.width (nth os 0) d → LanedIs l.width (default_a l.width) (nth os 1) a → LanedIs l.width (default_b l.width) (nth os 2) b → LastIs word_tree os c
     → LanesIs os l (lanes_by l d a b c)
-lanes_by_lem os l MaskedFound.Not a b c e g h k = tt
-lanes_by_lem os l (MaskedFound.Is d) LanedFound.Not b c e g h k = tt
-lanes_by_lem os l (MaskedFound.Is d) (LanedFound.Is a) LanedFound.Not c e g h k = tt
-lanes_by_lem os l (MaskedFound.Is d) (LanedFound.Is a) (LanedFound.Is b) (LastFound.Wrong n) e g h k = tt
-lanes_by_lem os l (MaskedFound.Is d) (LanedFound.Is a) (LanedFound.Is b) (LastFound.Is c) e g h k =
+lanes_by_lem os l None a b c e g h k = tt
+lanes_by_lem os l (Some d) None b c e g h k = tt
+lanes_by_lem os l (Some d) (Some a) None c e g h k = tt
+lanes_by_lem os l (Some d) (Some a) (Some b) (Err n) e g h k = tt
+lanes_by_lem os l (Some d) (Some a) (Some b) (Ok c) e g h k =
     let m : Lanes = lanes_with l d a b c in
     let s : Spelled (nth os 0 ∷ nth os 1 ∷ nth os 2 ∷ bare (r c) ∷ []) (lanes_trees m) (written_lanes m) =
     more e.0 (more g.0 (more h.0 (more (as_standard refl) none))) in
     record { spelled = subst (λ (x : List OperandTree). Spelled x (lanes_trees m) (written_lanes m)) (sym k) s; named = rw (e.1, g.1, h.1); head = refl }
 
-abbrev CombinationIs : List OperandTree → Combination → CombinationFound → Type 0
-CombinationIs os k (CombinationFound.Is j) = (blank_combination j ≡ blank_combination k) × (os ≡ nth os 0 ∷ nth os 1 ∷ nth os 2 ∷ combination_last j)
-CombinationIs os k (CombinationFound.Wrong n) = Unit {0}
+abbrev CombinationIs : List OperandTree → Combination → Result Combination ℕ → Type 0
+CombinationIs os k (Ok j) = (blank_combination j ≡ blank_combination k) × (os ≡ nth os 0 ∷ nth os 1 ∷ nth os 2 ∷ combination_last j)
+CombinationIs os k (Err n) = Unit {0}
 
-combination_is : (os : List OperandTree) (k : Combination) (c : ConditionFound) → ConditionIs (nth os 3) c → CombinationIs os k (combination_from k (length os) c)
+combination_is : (os : List OperandTree) (k : Combination) (c : Option Condition) → ConditionIs (nth os 3) c → CombinationIs os k (combination_from k (length os) c)
 combination_is os Alone c e = go (eqb (length os) 3) refl
   where
-    go : (t : Bool) → eqb (length os) 3 ≡ t → CombinationIs os Alone (cond t (CombinationFound.Is Alone) (CombinationFound.Wrong 3))
+    go : (t : Bool) → eqb (length os) 3 ≡ t → CombinationIs os Alone (cond t (Ok Alone) (Err 3))
     go true g = (refl, listed_by_lem os 3 (eqb-true (length os) 3 g))
     go false g = tt
-combination_is os (With op d) ConditionFound.Not e = tt
-combination_is os (With op d) (ConditionFound.Is c) e = go (eqb (length os) 4) refl
+combination_is os (With op d) None e = tt
+combination_is os (With op d) (Some c) e = go (eqb (length os) 4) refl
   where
-    go : (t : Bool) → eqb (length os) 4 ≡ t → CombinationIs os (With op d) (cond t (CombinationFound.Is (With op c)) (CombinationFound.Wrong 4))
+    go : (t : Bool) → eqb (length os) 4 ≡ t → CombinationIs os (With op d) (cond t (Ok (With op c)) (Err 4))
     go true g = (refl, listed_by_lem os 4 (eqb-true (length os) 4 g) ∙ ap (λ (x : OperandTree). nth os 0 ∷ nth os 1 ∷ nth os 2 ∷ x ∷ []) e)
     go false g = tt
 
-abbrev ComparisonIs : List OperandTree → Comparison → ComparisonFound → Type 0
-ComparisonIs os s (ComparisonFound.Is t) =
+abbrev ComparisonIs : List OperandTree → Comparison → Result Comparison ℕ → Type 0
+ComparisonIs os s (Ok t) =
     (blank_comparison t ≡ blank_comparison s) × (os ≡ nth os 0 ∷ bare (operand_place t.a) ∷ bare (operand_place t.b) ∷ combination_last t.combination)
-ComparisonIs os s (ComparisonFound.Wrong k) = Unit {0}
+ComparisonIs os s (Err k) = Unit {0}
 
-comparison_by_lem : (os : List OperandTree) (s : Comparison) (a b : OperandFound) (k : CombinationFound)
+comparison_by_lem : (os : List OperandTree) (s : Comparison) (a b : Option Operand) (k : Result Combination ℕ)
     → OperandIs (nth os 1) a → OperandIs (nth os 2) b → CombinationIs os s.combination k → ComparisonIs os s (comparison_by s a b k)
-comparison_by_lem os s OperandFound.Not b k e g h = tt
-comparison_by_lem os s (OperandFound.Is a) OperandFound.Not k e g h = tt
-comparison_by_lem os s (OperandFound.Is a) (OperandFound.Is b) (CombinationFound.Wrong n) e g h = tt
-comparison_by_lem os s (OperandFound.Is a) (OperandFound.Is b) (CombinationFound.Is k) e g h = (
+comparison_by_lem os s None b k e g h = tt
+comparison_by_lem os s (Some a) None k e g h = tt
+comparison_by_lem os s (Some a) (Some b) (Err n) e g h = tt
+comparison_by_lem os s (Some a) (Some b) (Ok k) e g h = (
   ap (λ (x : Combination). record { cmp = s.cmp; combination = x; ftz = s.ftz; stype = s.stype; a = no_operand; b = no_operand }) h.0,
   h.1 ∙ ap₂ (λ (x y : OperandTree). nth os 0 ∷ x ∷ y ∷ combination_last k) e g,
 )
 
-abbrev ChoiceIs : List OperandTree → DataType → ChoiceFound → Type 0
-ChoiceIs os t (ChoiceFound.Is s) =
+abbrev ChoiceIs : List OperandTree → DataType → Result Choice ℕ → Type 0
+ChoiceIs os t (Ok s) =
     (s.dtype ≡ t) × (nth os 0 ≡ bare (operand_place s.d)) × (nth os 1 ≡ bare (operand_place s.a)) × (nth os 2 ≡ bare (operand_place s.b))
-ChoiceIs os t (ChoiceFound.Wrong k) = Unit {0}
+ChoiceIs os t (Err k) = Unit {0}
 
-choice_by_lem : (os : List OperandTree) (t : DataType) (d a b : OperandFound)
+choice_by_lem : (os : List OperandTree) (t : DataType) (d a b : Option Operand)
     → OperandIs (nth os 0) d → OperandIs (nth os 1) a → OperandIs (nth os 2) b → ChoiceIs os t (choice_by t d a b)
-choice_by_lem os t OperandFound.Not a b e g h = tt
-choice_by_lem os t (OperandFound.Is d) OperandFound.Not b e g h = tt
-choice_by_lem os t (OperandFound.Is d) (OperandFound.Is a) OperandFound.Not e g h = tt
-choice_by_lem os t (OperandFound.Is d) (OperandFound.Is a) (OperandFound.Is b) e g h = (refl, e, g, h)
+choice_by_lem os t None a b e g h = tt
+choice_by_lem os t (Some d) None b e g h = tt
+choice_by_lem os t (Some d) (Some a) None e g h = tt
+choice_by_lem os t (Some d) (Some a) (Some b) e g h = (refl, e, g, h)
 
 -- ==== the instruction
 
-abbrev FilledIs : List OperandTree → Instruction → Filled → Type 0
-FilledIs os i (Full j) = OperandsSpell os j × (blank j ≡ blank i)
-FilledIs os i (Wrong k) = Unit {0}
+abbrev FilledIs : List OperandTree → Instruction → Result Instruction ℕ → Type 0
+FilledIs os i (Ok j) = OperandsSpell os j × (blank j ≡ blank i)
+FilledIs os i (Err k) = Unit {0}
 
 itself : (ts : List OperandTree) → Spelled ts ts ts
 itself [] = none
@@ -439,38 +419,38 @@ itself (o ∷ ts) = more (as_standard refl) (itself ts)
 standing : {os ts : List OperandTree} → os ≡ ts → Spelled os ts ts
 standing {os} {ts} e = rw e (itself ts)
 
-arithmetic_by_lem : (os : List OperandTree) (op : Arith) (t : VideoType) (sat : Bool) (s : Scalar) (f : ScalarFound)
+arithmetic_by_lem : (os : List OperandTree) (op : Arith) (t : VideoType) (sat : Bool) (s : Scalar) (f : Result Scalar ℕ)
     → ScalarIs os s f → FilledIs os (Arithmetic op t sat s) (arithmetic_from op t sat f)
-arithmetic_by_lem os op t sat s (ScalarFound.Is x) e = (record { operands = standing e.1; named = refl }, ap (Arithmetic op t sat) e.0)
-arithmetic_by_lem os op t sat s (ScalarFound.Wrong k) e = tt
+arithmetic_by_lem os op t sat s (Ok x) e = (record { operands = standing e.1; named = refl }, ap (Arithmetic op t sat) e.0)
+arithmetic_by_lem os op t sat s (Err k) e = tt
 
-vset_by_lem : (os : List OperandTree) (cmp : Cmp6) (s : Scalar) (f : ScalarFound) → ScalarIs os s f → FilledIs os (Vset cmp s) (vset_from cmp f)
-vset_by_lem os cmp s (ScalarFound.Is x) e = (record { operands = standing e.1; named = refl }, ap (Vset cmp) e.0)
-vset_by_lem os cmp s (ScalarFound.Wrong k) e = tt
+vset_by_lem : (os : List OperandTree) (cmp : Cmp6) (s : Scalar) (f : Result Scalar ℕ) → ScalarIs os s f → FilledIs os (Vset cmp s) (vset_from cmp f)
+vset_by_lem os cmp s (Ok x) e = (record { operands = standing e.1; named = refl }, ap (Vset cmp) e.0)
+vset_by_lem os cmp s (Err k) e = tt
 
-vset_lanes_by_lem : (os : List OperandTree) (cmp : Cmp6) (l : Lanes) (f : LanesFound) → LanesIs os l f → FilledIs os (VsetLanes cmp l) (vset_lanes_from cmp f)
-vset_lanes_by_lem os cmp l (LanesFound.Is x) e = (record { operands = e.spelled; named = e.named }, ap (VsetLanes cmp) e.head)
-vset_lanes_by_lem os cmp l (LanesFound.Wrong k) e = tt
+vset_lanes_by_lem : (os : List OperandTree) (cmp : Cmp6) (l : Lanes) (f : Result Lanes ℕ) → LanesIs os l f → FilledIs os (VsetLanes cmp l) (vset_lanes_from cmp f)
+vset_lanes_by_lem os cmp l (Ok x) e = (record { operands = e.spelled; named = e.named }, ap (VsetLanes cmp) e.head)
+vset_lanes_by_lem os cmp l (Err k) e = tt
 
-arithmetic_lanes_by : (os : List OperandTree) (op : LaneArith) (t : VideoType) (sat : Bool) (l : Lanes) (f : LanesFound)
+arithmetic_lanes_by : (os : List OperandTree) (op : LaneArith) (t : VideoType) (sat : Bool) (l : Lanes) (f : Result Lanes ℕ)
     → LanesIs os l f → FilledIs os (ArithmeticLanes op t sat l) (arithmetic_lanes_from op t sat f)
-arithmetic_lanes_by os op t sat l (LanesFound.Is x) e = (record { operands = e.spelled; named = e.named }, ap (ArithmeticLanes op t sat) e.head)
-arithmetic_lanes_by os op t sat l (LanesFound.Wrong k) e = tt
+arithmetic_lanes_by os op t sat l (Ok x) e = (record { operands = e.spelled; named = e.named }, ap (ArithmeticLanes op t sat) e.head)
+arithmetic_lanes_by os op t sat l (Err k) e = tt
 
-set_by_lem : (os : List OperandTree) (t : SetType) (x : Word) (s : Comparison) (d : WordFound) (f : ComparisonFound)
+set_by_lem : (os : List OperandTree) (t : SetType) (x : Word) (s : Comparison) (d : Option Word) (f : Result Comparison ℕ)
     → WordIs (nth os 0) d → ComparisonIs os s f → FilledIs os (Set t x s) (set_from t d f)
-set_by_lem os t x s WordFound.Not f e g = tt
-set_by_lem os t x s (WordFound.Is d) (ComparisonFound.Wrong k) e g = tt
-set_by_lem os t x s (WordFound.Is d) (ComparisonFound.Is c) e g = (
+set_by_lem os t x s None f e g = tt
+set_by_lem os t x s (Some d) (Err k) e g = tt
+set_by_lem os t x s (Some d) (Ok c) e g = (
   record { operands = standing (g.1 ∙ ap (λ (y : OperandTree). y ∷ bare (operand_place c.a) ∷ bare (operand_place c.b) ∷ combination_last c.combination) e); named = refl },
   ap (Set t no_word) g.0,
 )
 
-setp_by_lem : (os : List OperandTree) (x : Destination) (s : Comparison) (d : DestinationFound) (f : ComparisonFound)
+setp_by_lem : (os : List OperandTree) (x : Destination) (s : Comparison) (d : Option Destination) (f : Result Comparison ℕ)
     → DestinationIs (nth os 0) d → ComparisonIs os s f → FilledIs os (Setp x s) (setp_from d f)
-setp_by_lem os x s DestinationFound.Not f e g = tt
-setp_by_lem os x s (DestinationFound.Is d) (ComparisonFound.Wrong k) e g = tt
-setp_by_lem os x s (DestinationFound.Is d) (ComparisonFound.Is c) e g = (
+setp_by_lem os x s None f e g = tt
+setp_by_lem os x s (Some d) (Err k) e g = tt
+setp_by_lem os x s (Some d) (Ok c) e g = (
   record { operands = standing (g.1 ∙ ap (λ (y : OperandTree). y ∷ bare (operand_place c.a) ∷ bare (operand_place c.b) ∷ combination_last c.combination) e); named = refl },
   ap (Setp (One no_pred)) g.0,
 )
@@ -478,18 +458,18 @@ setp_by_lem os x s (DestinationFound.Is d) (ComparisonFound.Is c) e g = (
 four : {x y z u x' y' z' u' : OperandTree} → x ≡ x' → y ≡ y' → z ≡ z' → u ≡ u' → x ∷ y ∷ z ∷ u ∷ [] ≡ x' ∷ y' ∷ z' ∷ u' ∷ []
 four a b c d = rw (a, b, c, d)
 
-selp_by_lem : (os : List OperandTree) (s : Choice) (x : Pred) (f : ChoiceFound) (c : LastPred)
-    → ChoiceIs os s.dtype f → LastPredIs os c → FilledIs os (Selp s x) (selp_from f c)
-selp_by_lem os s x (ChoiceFound.Wrong k) c e g = tt
-selp_by_lem os s x (ChoiceFound.Is u) (LastPred.Wrong k) e g = tt
-selp_by_lem os s x (ChoiceFound.Is u) (LastPred.Is c) e g =
+selp_by_lem : (os : List OperandTree) (s : Choice) (x : Pred) (f : Result Choice ℕ) (c : Result Pred ℕ)
+    → ChoiceIs os s.dtype f → LastIs pred_tree os c → FilledIs os (Selp s x) (selp_from f c)
+selp_by_lem os s x (Err k) c e g = tt
+selp_by_lem os s x (Ok u) (Err k) e g = tt
+selp_by_lem os s x (Ok u) (Ok c) e g =
     (record { operands = standing (g ∙ four e.1 e.2 e.3 refl); named = refl }, ap (λ (y : DataType). Selp (blank_choice y) no_pred) e.0)
 
-slct_by_lem : (os : List OperandTree) (t : SlctType) (s : Choice) (x : Word) (f : ChoiceFound) (c : LastFound)
-    → ChoiceIs os s.dtype f → LastIs os c → FilledIs os (Slct t s x) (slct_from t f c)
-slct_by_lem os t s x (ChoiceFound.Wrong k) c e g = tt
-slct_by_lem os t s x (ChoiceFound.Is u) (LastFound.Wrong k) e g = tt
-slct_by_lem os t s x (ChoiceFound.Is u) (LastFound.Is c) e g =
+slct_by_lem : (os : List OperandTree) (t : SlctType) (s : Choice) (x : Word) (f : Result Choice ℕ) (c : Result Word ℕ)
+    → ChoiceIs os s.dtype f → LastIs word_tree os c → FilledIs os (Slct t s x) (slct_from t f c)
+slct_by_lem os t s x (Err k) c e g = tt
+slct_by_lem os t s x (Ok u) (Err k) e g = tt
+slct_by_lem os t s x (Ok u) (Ok c) e g =
     (record { operands = standing (g ∙ four e.1 e.2 e.3 refl); named = refl }, ap (λ (y : DataType). Slct t (blank_choice y) no_word) e.0)
 
 module _ (os : List OperandTree) (good : GoodOperands os) where
@@ -505,9 +485,9 @@ module _ (os : List OperandTree) (good : GoodOperands os) where
   selected_at : (k : ℕ) → k < operands_kept → SelectedIs (nth os k) (selected_from (tree_at seen k))
   selected_at k h = at_place (λ (o : OperandTree) (t : Tree). SelectedIs o (selected_from t)) selected_is good k h
 
-  last_at : LastIs os (last_by seen.n (bare_word (tree_at seen 3)))
+  last_at : LastIs word_tree os (last_by seen.n (bare_word (tree_at seen 3)))
   unfolding seen_operands
-  last_at = last_is os (bare_word (tree_at seen 3)) (word_at 3 (omega arith))
+  last_at = last_is word_tree os (bare_word (tree_at seen 3)) (word_at 3 (omega arith))
 
   scalar_at : (s : Scalar) → ScalarIs os s (scalar_from s seen)
   unfolding scalar_from seen_operands
@@ -564,9 +544,9 @@ module _ (os : List OperandTree) (good : GoodOperands os) where
   pred_at : PredIs (nth os 3) (bare_pred (tree_at seen 3))
   pred_at = at_place (λ (o : OperandTree) (t : Tree). PredIs o (bare_pred t)) (λ o g. pred_is_lem o) good 3 (omega arith)
 
-  pred_last_at : LastPredIs os (pred_last seen.n (bare_pred (tree_at seen 3)))
+  pred_last_at : LastIs pred_tree os (last_by seen.n (bare_pred (tree_at seen 3)))
   unfolding seen_operands
-  pred_last_at = last_pred_is os (bare_pred (tree_at seen 3)) pred_at
+  pred_last_at = last_is pred_tree os (bare_pred (tree_at seen 3)) pred_at
 
   filled_is : (i : Instruction) → FilledIs os i (filled_of i seen)
   unfolding filled_of seen_operands
@@ -576,10 +556,10 @@ module _ (os : List OperandTree) (good : GoodOperands os) where
   filled_is (ArithmeticLanes op t sat l) = arithmetic_lanes_by os op t sat l (lanes_from l seen) (lanes_at l)
   filled_is (Set t x s) = set_by_lem os t x s (bare_word (tree_at seen 0)) (comparison_from s seen) (word_at 0 (omega arith)) (comparison_at s)
   filled_is (Setp x s) = setp_by_lem os x s (destination_of (tree_at seen 0)) (comparison_from s seen) destination_at (comparison_at s)
-  filled_is (Selp s x) = selp_by_lem os s x (choice_from s seen) (pred_last seen.n (bare_pred (tree_at seen 3))) (choice_at s) pred_last_at
+  filled_is (Selp s x) = selp_by_lem os s x (choice_from s seen) (last_by seen.n (bare_pred (tree_at seen 3))) (choice_at s) pred_last_at
   filled_is (Slct t s x) = slct_by_lem os t s x (choice_from s seen) (last_by seen.n (bare_word (tree_at seen 3))) (choice_at s) last_at
 
-pub fill_sound : (i j : Instruction) (os : List OperandTree) → blank i ≡ i → GoodOperands os → filled_of i (seen_operands os) ≡ Full j → OperandsSpell os j × (blank j ≡ i)
+pub fill_sound : (i j : Instruction) (os : List OperandTree) → blank i ≡ i → GoodOperands os → filled_of i (seen_operands os) ≡ Ok j → OperandsSpell os j × (blank j ≡ i)
 fill_sound i j os h g e =
     let f = subst (FilledIs os i) e (filled_is os g i) in
     (f.0, f.1 ∙ h)

@@ -1,5 +1,5 @@
 -- The names of masks and of selectors of the forms with 2 and 4 are known by their numbers, each name and no other. Assumes nothing.
-use Rattle.std.specs.Prelude.{ℕ, zero, suc, ◌+◌, ◌-◌, ◌*◌, ◌/◌, ◌%◌, ◌<◌, ◌≤◌, ◌≡◌, refl, Bool, true, false, not, ◌&&◌, ◌||◌, cond, [], ◌∷◌, eqb, length}
+use Rattle.std.specs.Prelude.{ℕ, zero, suc, ◌+◌, ◌-◌, ◌*◌, ◌/◌, ◌%◌, ◌<◌, ◌≤◌, ◌≡◌, refl, Bool, true, false, not, ◌&&◌, ◌||◌, cond, [], ◌∷◌, eqb, length, None, Option, Some}
 use Rattle.std.proofs.Common.{arith, sym, ap, subst, ◌∙◌, length-append, le-leb, leb-true, eq-eqb, ne_eqb, eqb-true}
 use Rattle.std.proofs.Math.Bool.{and-true, and-false, or-true, or-false}
 use Rattle.std.proofs.lemmas.Bool.{eqb-false, not-true}
@@ -18,8 +18,6 @@ use Rattle.laws.specs.StandardTree.{named, mask_named, digits_named_lem}
 use Rattle.base.specs.PackLaws.{code_known}
 use Rattle.masks.specs.Masks.{lane_digit, no_lane, naming, comes_next, left_of, falling, mask_of, digits_in, digits_named}
 use Rattle.masks.specs.Numbers.{lanes_text, added, mask_spells, letter_spells}
-use Rattle.masks.specs.declared.MaskFound.{MaskFound}
-use Rattle.masks.specs.declared.DigitsFound.{DigitsFound}
 
 -- ==== tests
 
@@ -48,7 +46,7 @@ unfolding falling
 falls zero m x g h l r = absurd (omega arith)
 falls {last} {rest} (suc k) m x g h l r = go (eqb (x % radix) (lane_digit k)) refl (λ i. falls k m x g i l r)
   where
-    after : MaskFound
+    after : Option Mask
     after = falling (last - zero_byte) (naming (x % radix) true m) rest
 
     go : (t : Bool) → eqb (x % radix) (lane_digit k) ≡ t → (x % radix < lane_digit k → falling k m x ≡ after)
@@ -57,14 +55,14 @@ falls {last} {rest} (suc k) m x g h l r = go (eqb (x % radix) (lane_digit k)) re
     go false e f = let n : x % radix ≡ lane_digit k → ⊥ = eqb-false (x % radix) (lane_digit k) e in f (omega arith)
 
 -- no other byte is taken
-pub stops : (k : ℕ) (m : Mask) (x : ℕ) → 0 < x → (zero_byte ≤ x % radix → lane_digit k ≤ x % radix) → falling k m x ≡ MaskFound.Not
+pub stops : (k : ℕ) (m : Mask) (x : ℕ) → 0 < x → (zero_byte ≤ x % radix → lane_digit k ≤ x % radix) → falling k m x ≡ None
 unfolding falling
 stops zero m x p h = rw (ne_eqb x 0 (λ e. omega arith))
 stops (suc k) m x p h =
     rw (ne_eqb (x % radix) (lane_digit k) (λ e. let i = h (omega arith) in omega arith)) (stops k m x p (λ g. let i = h g in omega arith))
 
 -- lanes that are left need not be named
-pub ends : (k : ℕ) (m : Mask) → falling k m 0 ≡ MaskFound.Is m
+pub ends : (k : ℕ) (m : Mask) → falling k m 0 ≡ Some m
 unfolding falling
 ends zero m = refl
 ends (suc k) m = rw (ne_eqb 0 (lane_digit k) (λ e. omega arith)) (ends k m)
@@ -117,9 +115,9 @@ coded w m s = rw (le-leb (length (mask_name w m)) longest_name (mask_short w m))
 
 -- ==== masks: what is found has the name
 
-abbrev pub MaskIs : LaneWidth → ℕ → MaskFound → Type 0
-MaskIs w x (MaskFound.Is m) = (x ≡ code_of (mask_name w m)) × (mask_fits w m ≡ true)
-MaskIs w x MaskFound.Not = Unit {0}
+abbrev pub MaskIs : LaneWidth → ℕ → Option Mask → Type 0
+MaskIs w x (Some m) = (x ≡ code_of (mask_name w m)) × (mask_fits w m ≡ true)
+MaskIs w x None = Unit {0}
 
 -- a number is that of the lane's digit, if it comes next, and of what stands behind it
 taken_apart_lem : (k x : ℕ) → x ≡ added k (comes_next k x) (left_of k x)
@@ -130,9 +128,9 @@ taken_apart_lem k x = go (comes_next k x) refl
     go false e = refl
 
 -- the digits name lanes that the width has, and nothing else stands there
-abbrev LanesAre : LaneWidth → ℕ → MaskFound → Type 0
-LanesAre w x (MaskFound.Is m) = (x ≡ lanes_number m) × (spare_lanes_fit w m ≡ true)
-LanesAre w x MaskFound.Not = Unit {0}
+abbrev LanesAre : LaneWidth → ℕ → Option Mask → Type 0
+LanesAre w x (Some m) = (x ≡ lanes_number m) × (spare_lanes_fit w m ≡ true)
+LanesAre w x None = Unit {0}
 
 -- lanes 1 and 0, behind two that are known
 low_lanes : (w : LaneWidth) (l3 l2 : Bool) (x y : ℕ) → x ≡ added 3 l3 (added 2 l2 y) → ((l1 l0 : Bool) → spare_lanes_fit w (mask_with l3 l2 l1 l0) ≡ true)
@@ -141,10 +139,10 @@ unfolding falling
 low_lanes w l3 l2 x y e spare = go (comes_next 1 y) (taken_apart_lem 1 y) (comes_next 0 (left_of 1 y)) (taken_apart_lem 0 (left_of 1 y)) (eqb (left_of 0 (left_of 1 y)) 0) refl
   where
     go : (l1 : Bool) → y ≡ added 1 l1 (left_of 1 y) → (l0 : Bool) → left_of 1 y ≡ added 0 l0 (left_of 0 (left_of 1 y)) → (t : Bool) → eqb (left_of 0 (left_of 1 y)) 0 ≡ t
-        → LanesAre w x (cond t (MaskFound.Is (naming (lane_digit 0) l0 (naming (lane_digit 1) l1 (high_lanes l3 l2)))) MaskFound.Not)
+        → LanesAre w x (cond t (Some (naming (lane_digit 0) l0 (naming (lane_digit 1) l1 (high_lanes l3 l2)))) None)
     go l1 f l0 g true q =
         let n = f ∙ ap (added 1 l1) (g ∙ ap (added 0 l0) (eqb-true (left_of 0 (left_of 1 y)) 0 q)) in
-        subst (λ (m : Mask). LanesAre w x (MaskFound.Is m)) (sym (all_named l3 l2 l1 l0)) (e ∙ ap (λ (z : ℕ). added 3 l3 (added 2 l2 z)) n, spare l1 l0)
+        subst (λ (m : Mask). LanesAre w x (Some m)) (sym (all_named l3 l2 l1 l0)) (e ∙ ap (λ (z : ℕ). added 3 l3 (added 2 l2 z)) n, spare l1 l0)
     go l1 f l0 g false q = tt
 
 lanes_are : (w : LaneWidth) (x : ℕ) → LanesAre w x (falling (lanes w) no_lane x)
@@ -159,14 +157,14 @@ pub mask_sound : (w : LaneWidth) (x : ℕ) → MaskIs w x (mask_of w x)
 unfolding mask_of
 mask_sound w x = go (eqb (x % radix) (pack (lane_letter w))) refl (eqb (x / radix) 0) refl
   where
-    is : x % radix ≡ pack (lane_letter w) → eqb (x / radix) 0 ≡ false → (f : MaskFound) → LanesAre w (x / radix) f → MaskIs w x f
-    is a p (MaskFound.Is m) k =
+    is : x % radix ≡ pack (lane_letter w) → eqb (x / radix) 0 ≡ false → (f : Option Mask) → LanesAre w (x / radix) f → MaskIs w x f
+    is a p (Some m) k =
         let b : x ≡ pack (lane_letter w) + radix * lanes_number m = omega (arith, k.0) in
         (b ∙ coded w m (letter_spells w m (lanes_number_spells m)), rw (← some_digit m, ← k.0, p, k.1))
-    is a p MaskFound.Not k = tt
+    is a p None k = tt
 
     go : (s : Bool) → eqb (x % radix) (pack (lane_letter w)) ≡ s → (t : Bool) → eqb (x / radix) 0 ≡ t
-        → MaskIs w x (cond (not s || t) MaskFound.Not (falling (lanes w) no_lane (x / radix)))
+        → MaskIs w x (cond (not s || t) None (falling (lanes w) no_lane (x / radix)))
     go true e false p = is (eqb-true (x % radix) (pack (lane_letter w)) e) p (falling (lanes w) no_lane (x / radix)) (lanes_are w (x / radix))
     go true e true p = tt
     go false e t p = tt
@@ -185,15 +183,15 @@ lower : (k : ℕ) (t : Bool) (x : ℕ) → k ≤ 3 → x % radix < lane_digit k 
 lower k true x h g = omega arith
 lower k false x h g = omega arith
 
-low_found : (l3 l2 l1 l0 : Bool) → falling 2 (high_lanes l3 l2) (added 1 l1 (added 0 l0 0)) ≡ MaskFound.Is (mask_with l3 l2 l1 l0)
+low_found : (l3 l2 l1 l0 : Bool) → falling 2 (high_lanes l3 l2) (added 1 l1 (added 0 l0 0)) ≡ Some (mask_with l3 l2 l1 l0)
 unfolding falling
 low_found l3 l2 l1 l0 =
     takes_digit 1 l1 (high_lanes l3 l2) (added 0 l0 0) (omega arith) (lower 0 l0 0 (omega arith) (omega arith))
     ∙ takes_digit 0 l0 (naming (lane_digit 1) l1 (high_lanes l3 l2)) 0 (omega arith) (omega arith)
-    ∙ ap MaskFound.Is (all_named l3 l2 l1 l0)
+    ∙ ap Some (all_named l3 l2 l1 l0)
 
 lanes_found : (w : LaneWidth) (l3 l2 l1 l0 : Bool) → spare_lanes_fit w (mask_with l3 l2 l1 l0) ≡ true
-    → falling (lanes w) no_lane (lanes_number (mask_with l3 l2 l1 l0)) ≡ MaskFound.Is (mask_with l3 l2 l1 l0)
+    → falling (lanes w) no_lane (lanes_number (mask_with l3 l2 l1 l0)) ≡ Some (mask_with l3 l2 l1 l0)
 lanes_found Half false false l1 l0 e = low_found false false l1 l0
 lanes_found Half false true l1 l0 e = never e
 lanes_found Half true l2 l1 l0 e = never (both (not l2) false e).1
@@ -207,7 +205,7 @@ letter_small : (w : LaneWidth) → pack (lane_letter w) < radix
 letter_small Half = omega arith
 letter_small Byte = omega arith
 
-pub mask_complete : (w : LaneWidth) (m : Mask) → mask_fits w m ≡ true → mask_of w (code_of (mask_name w m)) ≡ MaskFound.Is m
+pub mask_complete : (w : LaneWidth) (m : Mask) → mask_fits w m ≡ true → mask_of w (code_of (mask_name w m)) ≡ Some m
 unfolding mask_of
 mask_complete w m e =
     let u = both (some_lane m) (spare_lanes_fit w m) e in
@@ -248,15 +246,15 @@ in_fits Byte x =
       le-leb (x / 128 % 8) 7 (omega arith),
     )
 
-abbrev pub DigitsIs : LaneWidth → ℕ → DigitsFound → Type 0
-DigitsIs w x (DigitsFound.Is s) = (x ≡ code_of (digits_name w s)) × (digits_fit w s ≡ true)
-DigitsIs w x DigitsFound.Not = Unit {0}
+abbrev pub DigitsIs : LaneWidth → ℕ → Option Digits → Type 0
+DigitsIs w x (Some s) = (x ≡ code_of (digits_name w s)) × (digits_fit w s ≡ true)
+DigitsIs w x None = Unit {0}
 
 pub digits_sound : (w : LaneWidth) (x : ℕ) → DigitsIs w x (digits_named w x)
 unfolding digits_named
 digits_sound w x = go (eqb (pack (digits_name w (digits_in w x))) x) refl
   where
-    go : (t : Bool) → eqb (pack (digits_name w (digits_in w x))) x ≡ t → DigitsIs w x (cond t (DigitsFound.Is (digits_in w x)) DigitsFound.Not)
+    go : (t : Bool) → eqb (pack (digits_name w (digits_in w x))) x ≡ t → DigitsIs w x (cond t (Some (digits_in w x)) None)
     go true e = (sym (digits_pack w (digits_in w x) ∙ eqb-true (pack (digits_name w (digits_in w x))) x e), in_fits w x)
     go false e = tt
 
@@ -314,6 +312,6 @@ in_name Byte s e =
     let x = both _ _ v.0 in
     byte_name s.lane0 s.lane1 s.lane2 s.lane3 (leb-true _ 7 x.0) (leb-true _ 7 x.1) (leb-true _ 7 v.1) (leb-true _ 7 u.1)
 
-pub digits_complete : (w : LaneWidth) (s : Digits) → digits_fit w s ≡ true → digits_named w (code_of (digits_name w s)) ≡ DigitsFound.Is s
+pub digits_complete : (w : LaneWidth) (s : Digits) → digits_fit w s ≡ true → digits_named w (code_of (digits_name w s)) ≡ Some s
 unfolding digits_named
 digits_complete w s e = rw (digits_pack w s, in_name w s e, eq-eqb (pack (digits_name w s)) (pack (digits_name w s)) refl)

@@ -1,5 +1,5 @@
 -- The code's side of the names of masks and of selectors of the forms with 2 and 4, kept as numbers. No one has to believe it: laws join it to the names.
-use Rattle.std.specs.Prelude.{ℕ, zero, suc, ◌+◌, ◌/◌, ◌%◌, Bool, false, not, ◌&&◌, ◌||◌, cond, eqb}
+use Rattle.std.specs.Prelude.{ℕ, zero, suc, ◌+◌, ◌/◌, ◌%◌, Bool, false, not, ◌&&◌, ◌||◌, cond, eqb, None, Option, Some}
 use Rattle.base.specs.Pack.{radix, pack}
 use Rattle.record.specs.declared.LaneWidth.{LaneWidth}
 use Rattle.record.specs.declared.LaneWidth.TheVariants.{Half, Byte}
@@ -8,8 +8,6 @@ use Rattle.record.specs.declared.Digits.{Digits}
 use Rattle.signs.specs.Digits.{zero_byte}
 use Rattle.rules.specs.Numbers.{lanes}
 use Rattle.rules.specs.Names.{lane_letter, digits_name}
-use Rattle.masks.specs.declared.MaskFound.{MaskFound}
-use Rattle.masks.specs.declared.DigitsFound.{DigitsFound}
 
 -- ==== masks
 
@@ -39,13 +37,13 @@ abbrev pub left_of : ℕ → ℕ → ℕ
 left_of k x = cond (comes_next k x) (x / radix) x
 
 -- strictly falling digits of the lanes below k: from the highest down a lane is named if its digit comes next, and in the end no byte is left
-unfoldable pub falling : ℕ → Mask → ℕ → MaskFound
-falling zero m x = cond (eqb x 0) (MaskFound.Is m) MaskFound.Not
+unfoldable pub falling : ℕ → Mask → ℕ → Option Mask
+falling zero m x = cond (eqb x 0) (Some m) None
 falling (suc k) m x = falling k (naming (lane_digit k) (comes_next k x) m) (left_of k x)
 
 -- no mask if another letter stands in front, or no digit behind it; else what its digits name
-unfoldable pub mask_of : LaneWidth → ℕ → MaskFound
-mask_of w x = cond (not (eqb (x % radix) (pack (lane_letter w))) || eqb (x / radix) 0) MaskFound.Not (falling (lanes w) no_lane (x / radix))
+unfoldable pub mask_of : LaneWidth → ℕ → Option Mask
+mask_of w x = cond (not (eqb (x % radix) (pack (lane_letter w))) || eqb (x / radix) 0) None (falling (lanes w) no_lane (x / radix))
 
 -- ==== selectors
 
@@ -61,5 +59,5 @@ digits_in Byte x =
     }
 
 -- a selector exactly when what its digits stand for has this very name
-unfoldable pub digits_named : LaneWidth → ℕ → DigitsFound
-digits_named w x = cond (eqb (pack (digits_name w (digits_in w x))) x) (DigitsFound.Is (digits_in w x)) DigitsFound.Not
+unfoldable pub digits_named : LaneWidth → ℕ → Option Digits
+digits_named w x = cond (eqb (pack (digits_name w (digits_in w x))) x) (Some (digits_in w x)) None

@@ -1,5 +1,5 @@
 // Masks and selectors of the forms with 2 and 4: the number of each one's name (its bytes in base 128, the first the lowest), and back.
-#![tactic(auto)]
+#![tactic(auto, unfolding(crate::specs::Masks::digits_in, crate::specs::Masks::digits_named))]
 
 ghost use Rattle.std.specs.Prelude.{◌≡◌, cond, ◌+◌, ◌*◌, ◌^◌, ◌≤◌, ◌<◌};
 ghost use Rattle.base.specs.Pack.{radix, pack, NumberSpells};
@@ -14,18 +14,6 @@ const LETTER_B: u64 = 98;
 
 const LETTER_H: u64 = 104;
 
-#[derive(Clone, Copy)]
-pub enum MaskFound {
-    Is(Mask),
-    Not,
-}
-
-#[derive(Clone, Copy)]
-pub enum DigitsFound {
-    Is(Digits),
-    Not,
-}
-
 // ---- masks
 
 // A digit before others, if its lane is named.
@@ -34,9 +22,10 @@ fn digit_if(named: bool, b: u8, x: u64) -> u64
     ensures { (result ≡ cond named (b + radix * x) x) × (result ≤ b + radix * x) }
 {
     if named {
-        return (b as u64) + base::RADIX * x;
+        (b as u64) + base::RADIX * x
+    } else {
+        x
     }
-    x
 }
 
 // The letter that a mask's name begins with.
@@ -50,6 +39,7 @@ fn letter(w: LaneWidth) -> u64
 }
 
 // The number of a mask's name.
+// A number, not a text: see base::RADIX.
 pub fn mask_number(w: LaneWidth, m: Mask) -> u64
     ensures { NumberSpells 5 result (mask_name w m) }
 {
@@ -71,15 +61,12 @@ fn digit_limit(w: LaneWidth) -> u8
 }
 
 // The mask of a name: the width's letter, then one or more digits, each below the number of lanes and each lower than the one before.
-pub fn mask_of(w: LaneWidth, x: u64) -> MaskFound
+pub fn mask_of(w: LaneWidth, x: u64) -> Option<Mask>
     ensures { result ≡ mask_of w x }
 {
-    if x % base::RADIX != letter(w) {
-        return MaskFound::Not;
-    }
     let mut rest = x / base::RADIX;
-    if rest == 0 {
-        return MaskFound::Not;
+    if x % base::RADIX != letter(w) || rest == 0 {
+        return None;
     }
     // the digit before, at first the number of lanes; and the lanes named so far
     let mut last = digit_limit(w);
@@ -91,11 +78,8 @@ pub fn mask_of(w: LaneWidth, x: u64) -> MaskFound
     };
     while rest != 0 {
         let digit = (rest % base::RADIX) as u8;
-        if digit < b'0' {
-            return MaskFound::Not;
-        }
-        if last <= digit {
-            return MaskFound::Not;
+        if digit < b'0' || last <= digit {
+            return None;
         }
         mask = Mask {
             lane0: (digit == b'0') | mask.lane0,
@@ -104,9 +88,9 @@ pub fn mask_of(w: LaneWidth, x: u64) -> MaskFound
             lane3: (digit == b'3') | mask.lane3,
         };
         last = digit;
-        rest = rest / base::RADIX;
+        rest /= base::RADIX;
     }
-    MaskFound::Is(mask)
+    Some(mask)
 }
 
 // ---- selectors
@@ -153,12 +137,9 @@ fn digits_in(w: LaneWidth, x: u64) -> Digits
 }
 
 // The name is a selector's exactly when what its digits stand for has this very name.
-pub fn digits_of(w: LaneWidth, x: u64) -> DigitsFound
+pub fn digits_of(w: LaneWidth, x: u64) -> Option<Digits>
     ensures { result ≡ digits_named w x }
 {
     let s = digits_in(w, x);
-    if digits_number(w, s) == x {
-        return DigitsFound::Is(s);
-    }
-    DigitsFound::Not
+    (digits_number(w, s) == x).then_some(s)
 }

@@ -1,4 +1,5 @@
 -- No two outcomes satisfy a contract as it stands in src/lib.rt.
+use Rattle.std.specs.Prelude.{Option}
 use contract.Lifetimes.{Lfts}
 use borrow.Fn.Kinds.{Dens, ended_of}
 use denote.Triple.Clauses.{AtExit}
@@ -7,15 +8,6 @@ use mathlib.Core.Path.{◌≡◌}
 use Rattle.base.specs.PackLaws.{spells_one}
 use Rattle.base.specs.Promise.{one_outcome}
 use Rattle.names.specs.Back.{opcode_is_lem, video_is, set_type_is, type_is, six_is, cmp_is, bool_is, op2_is, selector_is}
-use Rattle.names.specs.declared.OpcodeName.{OpcodeName}
-use Rattle.names.specs.declared.VideoName.{VideoName}
-use Rattle.names.specs.declared.SetName.{SetName}
-use Rattle.names.specs.declared.TypeName.{TypeName}
-use Rattle.names.specs.declared.SixName.{SixName}
-use Rattle.names.specs.declared.CmpName.{CmpName}
-use Rattle.names.specs.declared.BoolName.{BoolName}
-use Rattle.names.specs.declared.Op2Name.{Op2Name}
-use Rattle.names.specs.declared.SelectorName.{SelectorName}
 use Rattle.names.proofs.video_number.Kinds as video-number-kinds
 use Rattle.names.proofs.video_number.Reads as video-number
 use Rattle.names.proofs.set_type_number.Kinds as set-type-number-kinds
@@ -56,6 +48,15 @@ use Rattle.names.proofs.op2_of.Kinds as op2-of-kinds
 use Rattle.names.proofs.op2_of.Reads as op2-of
 use Rattle.names.proofs.selector_of.Kinds as selector-of-kinds
 use Rattle.names.proofs.selector_of.Reads as selector-of
+use Rattle.names.specs.declared.Opcode.{Opcode}
+use Rattle.record.specs.declared.BoolOp.{BoolOp}
+use Rattle.record.specs.declared.Cmp6.{Cmp6}
+use Rattle.record.specs.declared.CmpOp.{CmpOp}
+use Rattle.record.specs.declared.DataType.{DataType}
+use Rattle.record.specs.declared.Op2.{Op2}
+use Rattle.record.specs.declared.Selector.{Selector}
+use Rattle.record.specs.declared.SetType.{SetType}
+use Rattle.record.specs.declared.VideoType.{VideoType}
 
 -- ==== the number of a choice's name
 
@@ -94,29 +95,29 @@ selector_number_one_outcome κs a x y s t p q = spells_one p q
 
 -- ==== what a number's name stands for
 
-pub opcode_of_one_outcome : (κs : Lfts 0) (a : Dens κs opcode-of-kinds.ps) (x y : OpcodeName) (s t : AtExit (ended_of 0 opcode-of-kinds.ps opcode-of-kinds.r) κs) → opcode-of.Post κs a x s → opcode-of.Post κs a y t → x ≡ y
+pub opcode_of_one_outcome : (κs : Lfts 0) (a : Dens κs opcode-of-kinds.ps) (x y : Option Opcode) (s t : AtExit (ended_of 0 opcode-of-kinds.ps opcode-of-kinds.r) κs) → opcode-of.Post κs a x s → opcode-of.Post κs a y t → x ≡ y
 opcode_of_one_outcome κs a x y s t p q = one_outcome (opcode_is_lem p) (opcode_is_lem q)
 
-pub video_of_one_outcome : (κs : Lfts 0) (a : Dens κs video-of-kinds.ps) (x y : VideoName) (s t : AtExit (ended_of 0 video-of-kinds.ps video-of-kinds.r) κs) → video-of.Post κs a x s → video-of.Post κs a y t → x ≡ y
+pub video_of_one_outcome : (κs : Lfts 0) (a : Dens κs video-of-kinds.ps) (x y : Option VideoType) (s t : AtExit (ended_of 0 video-of-kinds.ps video-of-kinds.r) κs) → video-of.Post κs a x s → video-of.Post κs a y t → x ≡ y
 video_of_one_outcome κs a x y s t p q = one_outcome (video_is p) (video_is q)
 
-pub set_type_of_one_outcome : (κs : Lfts 0) (a : Dens κs set-type-of-kinds.ps) (x y : SetName) (s t : AtExit (ended_of 0 set-type-of-kinds.ps set-type-of-kinds.r) κs) → set-type-of.Post κs a x s → set-type-of.Post κs a y t → x ≡ y
+pub set_type_of_one_outcome : (κs : Lfts 0) (a : Dens κs set-type-of-kinds.ps) (x y : Option SetType) (s t : AtExit (ended_of 0 set-type-of-kinds.ps set-type-of-kinds.r) κs) → set-type-of.Post κs a x s → set-type-of.Post κs a y t → x ≡ y
 set_type_of_one_outcome κs a x y s t p q = one_outcome (set_type_is p) (set_type_is q)
 
-pub type_of_one_outcome : (κs : Lfts 0) (a : Dens κs type-of-kinds.ps) (x y : TypeName) (s t : AtExit (ended_of 0 type-of-kinds.ps type-of-kinds.r) κs) → type-of.Post κs a x s → type-of.Post κs a y t → x ≡ y
+pub type_of_one_outcome : (κs : Lfts 0) (a : Dens κs type-of-kinds.ps) (x y : Option DataType) (s t : AtExit (ended_of 0 type-of-kinds.ps type-of-kinds.r) κs) → type-of.Post κs a x s → type-of.Post κs a y t → x ≡ y
 type_of_one_outcome κs a x y s t p q = one_outcome (type_is p) (type_is q)
 
-pub six_of_one_outcome : (κs : Lfts 0) (a : Dens κs six-of-kinds.ps) (x y : SixName) (s t : AtExit (ended_of 0 six-of-kinds.ps six-of-kinds.r) κs) → six-of.Post κs a x s → six-of.Post κs a y t → x ≡ y
+pub six_of_one_outcome : (κs : Lfts 0) (a : Dens κs six-of-kinds.ps) (x y : Option Cmp6) (s t : AtExit (ended_of 0 six-of-kinds.ps six-of-kinds.r) κs) → six-of.Post κs a x s → six-of.Post κs a y t → x ≡ y
 six_of_one_outcome κs a x y s t p q = one_outcome (six_is p) (six_is q)
 
-pub cmp_of_one_outcome : (κs : Lfts 0) (a : Dens κs cmp-of-kinds.ps) (x y : CmpName) (s t : AtExit (ended_of 0 cmp-of-kinds.ps cmp-of-kinds.r) κs) → cmp-of.Post κs a x s → cmp-of.Post κs a y t → x ≡ y
+pub cmp_of_one_outcome : (κs : Lfts 0) (a : Dens κs cmp-of-kinds.ps) (x y : Option CmpOp) (s t : AtExit (ended_of 0 cmp-of-kinds.ps cmp-of-kinds.r) κs) → cmp-of.Post κs a x s → cmp-of.Post κs a y t → x ≡ y
 cmp_of_one_outcome κs a x y s t p q = one_outcome (cmp_is p) (cmp_is q)
 
-pub bool_of_one_outcome : (κs : Lfts 0) (a : Dens κs bool-of-kinds.ps) (x y : BoolName) (s t : AtExit (ended_of 0 bool-of-kinds.ps bool-of-kinds.r) κs) → bool-of.Post κs a x s → bool-of.Post κs a y t → x ≡ y
+pub bool_of_one_outcome : (κs : Lfts 0) (a : Dens κs bool-of-kinds.ps) (x y : Option BoolOp) (s t : AtExit (ended_of 0 bool-of-kinds.ps bool-of-kinds.r) κs) → bool-of.Post κs a x s → bool-of.Post κs a y t → x ≡ y
 bool_of_one_outcome κs a x y s t p q = one_outcome (bool_is p) (bool_is q)
 
-pub op2_of_one_outcome : (κs : Lfts 0) (a : Dens κs op2-of-kinds.ps) (x y : Op2Name) (s t : AtExit (ended_of 0 op2-of-kinds.ps op2-of-kinds.r) κs) → op2-of.Post κs a x s → op2-of.Post κs a y t → x ≡ y
+pub op2_of_one_outcome : (κs : Lfts 0) (a : Dens κs op2-of-kinds.ps) (x y : Option Op2) (s t : AtExit (ended_of 0 op2-of-kinds.ps op2-of-kinds.r) κs) → op2-of.Post κs a x s → op2-of.Post κs a y t → x ≡ y
 op2_of_one_outcome κs a x y s t p q = one_outcome (op2_is p) (op2_is q)
 
-pub selector_of_one_outcome : (κs : Lfts 0) (a : Dens κs selector-of-kinds.ps) (x y : SelectorName) (s t : AtExit (ended_of 0 selector-of-kinds.ps selector-of-kinds.r) κs) → selector-of.Post κs a x s → selector-of.Post κs a y t → x ≡ y
+pub selector_of_one_outcome : (κs : Lfts 0) (a : Dens κs selector-of-kinds.ps) (x y : Option Selector) (s t : AtExit (ended_of 0 selector-of-kinds.ps selector-of-kinds.r) κs) → selector-of.Post κs a x s → selector-of.Post κs a y t → x ≡ y
 selector_of_one_outcome κs a x y s t p q = one_outcome (selector_is p) (selector_is q)

@@ -2,12 +2,8 @@
 // Masks and lane selectors are made of digits and stand in crate masks.
 #![tactic(auto)]
 
-ghost use Rattle.std.specs.Prelude.{◌≡◌};
 ghost use Rattle.base.specs.Pack.{NumberSpells};
 ghost use Rattle.names.specs.Back.{Means, OpcodeBack, VideoBack, SetTypeBack, TypeBack, SixBack, CmpBack, BoolBack, Op2Back, SelectorBack};
-ghost use Rattle.record.specs.declared.CmpOp.TheVariants.{Unsigned, Float};
-ghost use Rattle.record.specs.declared.LaneArith.TheVariants.{Scalar};
-ghost use Rattle.record.specs.declared.LaneWidth.TheVariants.{Half, Byte};
 ghost use Rattle.rules.specs.Names.{video_type_name, set_type_name, type_name, six_name, cmp_name, bool_name, op2_name, arith_name, lanes_name, lane_arith_name, selector_name};
 
 use record::{
@@ -17,6 +13,7 @@ use record::{
 
 // ---- opcodes
 
+// Numbers, not texts: see base::RADIX.
 pub const VADD: u64 = 211366134;
 
 pub const VSUB: u64 = 207452662;
@@ -161,6 +158,8 @@ pub const H1: u64 = 6376;
 
 // ---- the number of each choice's name
 
+// Each function here and below is a list of document 01. No caller is generic over the choices: a trait would only rename.
+
 pub fn video_number(t: VideoType) -> u64
     ensures { NumberSpells 3 result (video_type_name t) }
 {
@@ -211,39 +210,23 @@ pub fn six_number(t: Cmp6) -> u64
     }
 }
 
-fn unsigned_number(t: CmpU) -> u64
-    ensures { NumberSpells 2 result (cmp_name (Unsigned t)) }
-{
-    match t {
-        CmpU::Lo => LO,
-        CmpU::Ls => LS,
-        CmpU::Hi => HI,
-        CmpU::Hs => HS,
-    }
-}
-
-fn float_number(t: CmpF) -> u64
-    ensures { NumberSpells 3 result (cmp_name (Float t)) }
-{
-    match t {
-        CmpF::Equ => EQU,
-        CmpF::Neu => NEU,
-        CmpF::Ltu => LTU,
-        CmpF::Leu => LEU,
-        CmpF::Gtu => GTU,
-        CmpF::Geu => GEU,
-        CmpF::Num => NUM,
-        CmpF::Nan => NAN,
-    }
-}
-
 pub fn cmp_number(t: CmpOp) -> u64
     ensures { NumberSpells 3 result (cmp_name t) }
 {
     match t {
         CmpOp::Six(c) => six_number(c),
-        CmpOp::Unsigned(c) => unsigned_number(c),
-        CmpOp::Float(c) => float_number(c),
+        CmpOp::Unsigned(CmpU::Lo) => LO,
+        CmpOp::Unsigned(CmpU::Ls) => LS,
+        CmpOp::Unsigned(CmpU::Hi) => HI,
+        CmpOp::Unsigned(CmpU::Hs) => HS,
+        CmpOp::Float(CmpF::Equ) => EQU,
+        CmpOp::Float(CmpF::Neu) => NEU,
+        CmpOp::Float(CmpF::Ltu) => LTU,
+        CmpOp::Float(CmpF::Leu) => LEU,
+        CmpOp::Float(CmpF::Gtu) => GTU,
+        CmpOp::Float(CmpF::Geu) => GEU,
+        CmpOp::Float(CmpF::Num) => NUM,
+        CmpOp::Float(CmpF::Nan) => NAN,
     }
 }
 
@@ -288,42 +271,22 @@ pub fn lanes_number(t: LaneWidth) -> u64
     }
 }
 
-fn half_number(t: Arith) -> u64
-    ensures { NumberSpells 9 result (lane_arith_name (Scalar t) Half) }
-{
-    match t {
-        Arith::Vadd => VADD2,
-        Arith::Vsub => VSUB2,
-        Arith::Vabsdiff => VABSDIFF2,
-        Arith::Vmin => VMIN2,
-        Arith::Vmax => VMAX2,
-    }
-}
-
-fn byte_number(t: Arith) -> u64
-    ensures { NumberSpells 9 result (lane_arith_name (Scalar t) Byte) }
-{
-    match t {
-        Arith::Vadd => VADD4,
-        Arith::Vsub => VSUB4,
-        Arith::Vabsdiff => VABSDIFF4,
-        Arith::Vmin => VMIN4,
-        Arith::Vmax => VMAX4,
-    }
-}
-
 pub fn lane_arith_number(t: LaneArith, w: LaneWidth) -> u64
     ensures { NumberSpells 9 result (lane_arith_name t w) }
 {
-    match t {
-        LaneArith::Scalar(op) => match w {
-            LaneWidth::Half => half_number(op),
-            LaneWidth::Byte => byte_number(op),
-        },
-        LaneArith::Vavrg => match w {
-            LaneWidth::Half => VAVRG2,
-            LaneWidth::Byte => VAVRG4,
-        },
+    match (t, w) {
+        (LaneArith::Scalar(Arith::Vadd), LaneWidth::Half) => VADD2,
+        (LaneArith::Scalar(Arith::Vsub), LaneWidth::Half) => VSUB2,
+        (LaneArith::Vavrg, LaneWidth::Half) => VAVRG2,
+        (LaneArith::Scalar(Arith::Vabsdiff), LaneWidth::Half) => VABSDIFF2,
+        (LaneArith::Scalar(Arith::Vmin), LaneWidth::Half) => VMIN2,
+        (LaneArith::Scalar(Arith::Vmax), LaneWidth::Half) => VMAX2,
+        (LaneArith::Scalar(Arith::Vadd), LaneWidth::Byte) => VADD4,
+        (LaneArith::Scalar(Arith::Vsub), LaneWidth::Byte) => VSUB4,
+        (LaneArith::Vavrg, LaneWidth::Byte) => VAVRG4,
+        (LaneArith::Scalar(Arith::Vabsdiff), LaneWidth::Byte) => VABSDIFF4,
+        (LaneArith::Scalar(Arith::Vmin), LaneWidth::Byte) => VMIN4,
+        (LaneArith::Scalar(Arith::Vmax), LaneWidth::Byte) => VMAX4,
     }
 }
 
@@ -354,210 +317,157 @@ pub enum Opcode {
     Slct,
 }
 
-#[derive(Clone, Copy)]
-pub enum OpcodeName {
-    Is(Opcode),
-    Not,
-}
-
-#[derive(Clone, Copy)]
-pub enum VideoName {
-    Is(VideoType),
-    Not,
-}
-
-#[derive(Clone, Copy)]
-pub enum SetName {
-    Is(SetType),
-    Not,
-}
-
-#[derive(Clone, Copy)]
-pub enum TypeName {
-    Is(DataType),
-    Not,
-}
-
-#[derive(Clone, Copy)]
-pub enum SixName {
-    Is(Cmp6),
-    Not,
-}
-
-#[derive(Clone, Copy)]
-pub enum CmpName {
-    Is(CmpOp),
-    Not,
-}
-
-#[derive(Clone, Copy)]
-pub enum BoolName {
-    Is(BoolOp),
-    Not,
-}
-
-#[derive(Clone, Copy)]
-pub enum Op2Name {
-    Is(Op2),
-    Not,
-}
-
-#[derive(Clone, Copy)]
-pub enum SelectorName {
-    Is(Selector),
-    Not,
-}
-
-fn lane_opcode(op: LaneArith, w: LaneWidth) -> OpcodeName
-    ensures { result ≡ OpcodeName.Is (Opcode.LaneArithmetic op w) }
-{
-    OpcodeName::Is(Opcode::LaneArithmetic(op, w))
-}
-
-pub fn opcode_of(x: u64) -> OpcodeName
+// Each function below is a list of document 01, as video_number. No TryFrom: the other types are of crate record.
+pub fn opcode_of(x: u64) -> Option<Opcode>
     ensures { Means OpcodeBack x result }
 {
     match x {
-        VADD => OpcodeName::Is(Opcode::Scalar(Arith::Vadd)),
-        VSUB => OpcodeName::Is(Opcode::Scalar(Arith::Vsub)),
-        VABSDIFF => OpcodeName::Is(Opcode::Scalar(Arith::Vabsdiff)),
-        VMIN => OpcodeName::Is(Opcode::Scalar(Arith::Vmin)),
-        VMAX => OpcodeName::Is(Opcode::Scalar(Arith::Vmax)),
-        VSET => OpcodeName::Is(Opcode::Vset),
-        VSET2 => OpcodeName::Is(Opcode::Lanes(LaneWidth::Half)),
-        VSET4 => OpcodeName::Is(Opcode::Lanes(LaneWidth::Byte)),
-        VADD2 => lane_opcode(LaneArith::Scalar(Arith::Vadd), LaneWidth::Half),
-        VSUB2 => lane_opcode(LaneArith::Scalar(Arith::Vsub), LaneWidth::Half),
-        VAVRG2 => lane_opcode(LaneArith::Vavrg, LaneWidth::Half),
-        VABSDIFF2 => lane_opcode(LaneArith::Scalar(Arith::Vabsdiff), LaneWidth::Half),
-        VMIN2 => lane_opcode(LaneArith::Scalar(Arith::Vmin), LaneWidth::Half),
-        VMAX2 => lane_opcode(LaneArith::Scalar(Arith::Vmax), LaneWidth::Half),
-        VADD4 => lane_opcode(LaneArith::Scalar(Arith::Vadd), LaneWidth::Byte),
-        VSUB4 => lane_opcode(LaneArith::Scalar(Arith::Vsub), LaneWidth::Byte),
-        VAVRG4 => lane_opcode(LaneArith::Vavrg, LaneWidth::Byte),
-        VABSDIFF4 => lane_opcode(LaneArith::Scalar(Arith::Vabsdiff), LaneWidth::Byte),
-        VMIN4 => lane_opcode(LaneArith::Scalar(Arith::Vmin), LaneWidth::Byte),
-        VMAX4 => lane_opcode(LaneArith::Scalar(Arith::Vmax), LaneWidth::Byte),
-        SET => OpcodeName::Is(Opcode::Set),
-        SETP => OpcodeName::Is(Opcode::Setp),
-        SELP => OpcodeName::Is(Opcode::Selp),
-        SLCT => OpcodeName::Is(Opcode::Slct),
-        _ => OpcodeName::Not,
+        VADD => Some(Opcode::Scalar(Arith::Vadd)),
+        VSUB => Some(Opcode::Scalar(Arith::Vsub)),
+        VABSDIFF => Some(Opcode::Scalar(Arith::Vabsdiff)),
+        VMIN => Some(Opcode::Scalar(Arith::Vmin)),
+        VMAX => Some(Opcode::Scalar(Arith::Vmax)),
+        VSET => Some(Opcode::Vset),
+        VSET2 => Some(Opcode::Lanes(LaneWidth::Half)),
+        VSET4 => Some(Opcode::Lanes(LaneWidth::Byte)),
+        VADD2 => Some(Opcode::LaneArithmetic(LaneArith::Scalar(Arith::Vadd), LaneWidth::Half)),
+        VSUB2 => Some(Opcode::LaneArithmetic(LaneArith::Scalar(Arith::Vsub), LaneWidth::Half)),
+        VAVRG2 => Some(Opcode::LaneArithmetic(LaneArith::Vavrg, LaneWidth::Half)),
+        VABSDIFF2 => Some(Opcode::LaneArithmetic(
+            LaneArith::Scalar(Arith::Vabsdiff),
+            LaneWidth::Half,
+        )),
+        VMIN2 => Some(Opcode::LaneArithmetic(LaneArith::Scalar(Arith::Vmin), LaneWidth::Half)),
+        VMAX2 => Some(Opcode::LaneArithmetic(LaneArith::Scalar(Arith::Vmax), LaneWidth::Half)),
+        VADD4 => Some(Opcode::LaneArithmetic(LaneArith::Scalar(Arith::Vadd), LaneWidth::Byte)),
+        VSUB4 => Some(Opcode::LaneArithmetic(LaneArith::Scalar(Arith::Vsub), LaneWidth::Byte)),
+        VAVRG4 => Some(Opcode::LaneArithmetic(LaneArith::Vavrg, LaneWidth::Byte)),
+        VABSDIFF4 => Some(Opcode::LaneArithmetic(
+            LaneArith::Scalar(Arith::Vabsdiff),
+            LaneWidth::Byte,
+        )),
+        VMIN4 => Some(Opcode::LaneArithmetic(LaneArith::Scalar(Arith::Vmin), LaneWidth::Byte)),
+        VMAX4 => Some(Opcode::LaneArithmetic(LaneArith::Scalar(Arith::Vmax), LaneWidth::Byte)),
+        SET => Some(Opcode::Set),
+        SETP => Some(Opcode::Setp),
+        SELP => Some(Opcode::Selp),
+        SLCT => Some(Opcode::Slct),
+        _ => None,
     }
 }
 
-pub fn video_of(x: u64) -> VideoName
+pub fn video_of(x: u64) -> Option<VideoType>
     ensures { Means VideoBack x result }
 {
     match x {
-        U32 => VideoName::Is(VideoType::U32),
-        S32 => VideoName::Is(VideoType::S32),
-        _ => VideoName::Not,
+        U32 => Some(VideoType::U32),
+        S32 => Some(VideoType::S32),
+        _ => None,
     }
 }
 
-pub fn set_type_of(x: u64) -> SetName
+pub fn set_type_of(x: u64) -> Option<SetType>
     ensures { Means SetTypeBack x result }
 {
     match x {
-        U32 => SetName::Is(SetType::U32),
-        S32 => SetName::Is(SetType::S32),
-        F32 => SetName::Is(SetType::F32),
-        _ => SetName::Not,
+        U32 => Some(SetType::U32),
+        S32 => Some(SetType::S32),
+        F32 => Some(SetType::F32),
+        _ => None,
     }
 }
 
-pub fn type_of(x: u64) -> TypeName
+pub fn type_of(x: u64) -> Option<DataType>
     ensures { Means TypeBack x result }
 {
     match x {
-        B16 => TypeName::Is(DataType::B16),
-        B32 => TypeName::Is(DataType::B32),
-        B64 => TypeName::Is(DataType::B64),
-        U16 => TypeName::Is(DataType::U16),
-        U32 => TypeName::Is(DataType::U32),
-        U64 => TypeName::Is(DataType::U64),
-        S16 => TypeName::Is(DataType::S16),
-        S32 => TypeName::Is(DataType::S32),
-        S64 => TypeName::Is(DataType::S64),
-        F32 => TypeName::Is(DataType::F32),
-        F64 => TypeName::Is(DataType::F64),
-        _ => TypeName::Not,
+        B16 => Some(DataType::B16),
+        B32 => Some(DataType::B32),
+        B64 => Some(DataType::B64),
+        U16 => Some(DataType::U16),
+        U32 => Some(DataType::U32),
+        U64 => Some(DataType::U64),
+        S16 => Some(DataType::S16),
+        S32 => Some(DataType::S32),
+        S64 => Some(DataType::S64),
+        F32 => Some(DataType::F32),
+        F64 => Some(DataType::F64),
+        _ => None,
     }
 }
 
-pub fn six_of(x: u64) -> SixName
+pub fn six_of(x: u64) -> Option<Cmp6>
     ensures { Means SixBack x result }
 {
     match x {
-        EQ => SixName::Is(Cmp6::Eq),
-        NE => SixName::Is(Cmp6::Ne),
-        LT => SixName::Is(Cmp6::Lt),
-        LE => SixName::Is(Cmp6::Le),
-        GT => SixName::Is(Cmp6::Gt),
-        GE => SixName::Is(Cmp6::Ge),
-        _ => SixName::Not,
+        EQ => Some(Cmp6::Eq),
+        NE => Some(Cmp6::Ne),
+        LT => Some(Cmp6::Lt),
+        LE => Some(Cmp6::Le),
+        GT => Some(Cmp6::Gt),
+        GE => Some(Cmp6::Ge),
+        _ => None,
     }
 }
 
-pub fn cmp_of(x: u64) -> CmpName
+pub fn cmp_of(x: u64) -> Option<CmpOp>
     ensures { Means CmpBack x result }
 {
     match x {
-        EQ => CmpName::Is(CmpOp::Six(Cmp6::Eq)),
-        NE => CmpName::Is(CmpOp::Six(Cmp6::Ne)),
-        LT => CmpName::Is(CmpOp::Six(Cmp6::Lt)),
-        LE => CmpName::Is(CmpOp::Six(Cmp6::Le)),
-        GT => CmpName::Is(CmpOp::Six(Cmp6::Gt)),
-        GE => CmpName::Is(CmpOp::Six(Cmp6::Ge)),
-        LO => CmpName::Is(CmpOp::Unsigned(CmpU::Lo)),
-        LS => CmpName::Is(CmpOp::Unsigned(CmpU::Ls)),
-        HI => CmpName::Is(CmpOp::Unsigned(CmpU::Hi)),
-        HS => CmpName::Is(CmpOp::Unsigned(CmpU::Hs)),
-        EQU => CmpName::Is(CmpOp::Float(CmpF::Equ)),
-        NEU => CmpName::Is(CmpOp::Float(CmpF::Neu)),
-        LTU => CmpName::Is(CmpOp::Float(CmpF::Ltu)),
-        LEU => CmpName::Is(CmpOp::Float(CmpF::Leu)),
-        GTU => CmpName::Is(CmpOp::Float(CmpF::Gtu)),
-        GEU => CmpName::Is(CmpOp::Float(CmpF::Geu)),
-        NUM => CmpName::Is(CmpOp::Float(CmpF::Num)),
-        NAN => CmpName::Is(CmpOp::Float(CmpF::Nan)),
-        _ => CmpName::Not,
+        EQ => Some(CmpOp::Six(Cmp6::Eq)),
+        NE => Some(CmpOp::Six(Cmp6::Ne)),
+        LT => Some(CmpOp::Six(Cmp6::Lt)),
+        LE => Some(CmpOp::Six(Cmp6::Le)),
+        GT => Some(CmpOp::Six(Cmp6::Gt)),
+        GE => Some(CmpOp::Six(Cmp6::Ge)),
+        LO => Some(CmpOp::Unsigned(CmpU::Lo)),
+        LS => Some(CmpOp::Unsigned(CmpU::Ls)),
+        HI => Some(CmpOp::Unsigned(CmpU::Hi)),
+        HS => Some(CmpOp::Unsigned(CmpU::Hs)),
+        EQU => Some(CmpOp::Float(CmpF::Equ)),
+        NEU => Some(CmpOp::Float(CmpF::Neu)),
+        LTU => Some(CmpOp::Float(CmpF::Ltu)),
+        LEU => Some(CmpOp::Float(CmpF::Leu)),
+        GTU => Some(CmpOp::Float(CmpF::Gtu)),
+        GEU => Some(CmpOp::Float(CmpF::Geu)),
+        NUM => Some(CmpOp::Float(CmpF::Num)),
+        NAN => Some(CmpOp::Float(CmpF::Nan)),
+        _ => None,
     }
 }
 
-pub fn bool_of(x: u64) -> BoolName
+pub fn bool_of(x: u64) -> Option<BoolOp>
     ensures { Means BoolBack x result }
 {
     match x {
-        AND => BoolName::Is(BoolOp::And),
-        OR => BoolName::Is(BoolOp::Or),
-        XOR => BoolName::Is(BoolOp::Xor),
-        _ => BoolName::Not,
+        AND => Some(BoolOp::And),
+        OR => Some(BoolOp::Or),
+        XOR => Some(BoolOp::Xor),
+        _ => None,
     }
 }
 
-pub fn op2_of(x: u64) -> Op2Name
+pub fn op2_of(x: u64) -> Option<Op2>
     ensures { Means Op2Back x result }
 {
     match x {
-        ADD => Op2Name::Is(Op2::Add),
-        MIN => Op2Name::Is(Op2::Min),
-        MAX => Op2Name::Is(Op2::Max),
-        _ => Op2Name::Not,
+        ADD => Some(Op2::Add),
+        MIN => Some(Op2::Min),
+        MAX => Some(Op2::Max),
+        _ => None,
     }
 }
 
-pub fn selector_of(x: u64) -> SelectorName
+pub fn selector_of(x: u64) -> Option<Selector>
     ensures { Means SelectorBack x result }
 {
     match x {
-        B0 => SelectorName::Is(Selector::B0),
-        B1 => SelectorName::Is(Selector::B1),
-        B2 => SelectorName::Is(Selector::B2),
-        B3 => SelectorName::Is(Selector::B3),
-        H0 => SelectorName::Is(Selector::H0),
-        H1 => SelectorName::Is(Selector::H1),
-        _ => SelectorName::Not,
+        B0 => Some(Selector::B0),
+        B1 => Some(Selector::B1),
+        B2 => Some(Selector::B2),
+        B3 => Some(Selector::B3),
+        H0 => Some(Selector::H0),
+        H1 => Some(Selector::H1),
+        _ => None,
     }
 }

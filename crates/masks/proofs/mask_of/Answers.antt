@@ -8,6 +8,7 @@ use Rattle.record.specs.declared.Mask.{Mask}
 use Rattle.masks.specs.Masks.{falling, mask_of, no_lane}
 use Rattle.masks.specs.MaskLaws.{falls, stops, ends}
 use Rattle.masks.proofs.mask_of.Goals as goal
+use Rattle.masks.proofs.mask_of.Goals.{then-x-letter-via-then-x-letter, then-x-letter-via-else-x-letter+then-rest-eq0}
 
 -- the digits that are left, from the last one and the lanes so far, give the mask of the whole name
 whole : (w : LaneWidth) (x limit last rest : ℕ) (mask : Mask) → x % radix ≡ pack (lane_letter w) → (x / radix ≡ 0 → ⊥) → lanes w ≡ limit - zero_byte
@@ -20,25 +21,18 @@ pub returns-then-x-letter : goal.returns-then-x-letter
 unfolding mask_of
 returns-then-x-letter c =
     let a = c.args in
-    rw (ne_eqb (a.x % radix) (pack (lane_letter a.w)) (λ e. omega (arith, c.letter.ensures.0, c.if-x-letter.true)))
-
-pub returns-then-rest-eq0 : goal.returns-then-rest-eq0
-unfolding mask_of
-returns-then-rest-eq0 c =
-    let a = c.args in
-    let l : a.x % radix ≡ pack (lane_letter a.w) = omega (arith, c.letter.ensures.0) in
-    let z : a.x / radix ≡ 0 = omega arith in
-    rw (eq-eqb (a.x % radix) (pack (lane_letter a.w)) l, z)
+    elim c.then-x-letter.branch [
+      | then-x-letter-via-then-x-letter w ↦ rw (ne_eqb (a.x % radix) (pack (lane_letter a.w)) (λ e. omega (arith, c.letter.ensures.0, w.if-x-letter.true)))
+      | then-x-letter-via-else-x-letter+then-rest-eq0 w ↦
+          let l : a.x % radix ≡ pack (lane_letter a.w) = omega (arith, c.letter.ensures.0, w.if-x-letter.false) in
+          let z : a.x / radix ≡ 0 = omega (arith, w.if-rest-eq0.true) in
+          rw (eq-eqb (a.x % radix) (pack (lane_letter a.w)) l, z)
+    ]
 
 pub returns-then-digit-lt48 : goal.returns-then-digit-lt48
 returns-then-digit-lt48 c =
     let s = c.loop-rest in
-    sym (stops (s.last - zero_byte) s.mask s.rest (omega arith) (λ g. omega arith)) ∙ whole c.args.w c.args.x c.digit_limit-last.result s.last s.rest s.mask (omega (arith, c.letter.ensures.0)) (λ e. omega arith) (omega (arith, c.digit_limit-last.ensures)) s.invariant
-
-pub returns-then-last-digit : goal.returns-then-last-digit
-returns-then-last-digit c =
-    let s = c.loop-rest in
-    sym (stops (s.last - zero_byte) s.mask s.rest (omega arith) (λ g. omega arith)) ∙ whole c.args.w c.args.x c.digit_limit-last.result s.last s.rest s.mask (omega (arith, c.letter.ensures.0)) (λ e. omega arith) (omega (arith, c.digit_limit-last.ensures)) s.invariant
+    sym (stops (s.last - zero_byte) s.mask s.rest (omega arith) (λ g. omega (arith, c.then-digit-lt48.either))) ∙ whole c.args.w c.args.x c.digit_limit-last.result s.last s.rest s.mask (omega (arith, c.letter.ensures.0)) (λ e. omega arith) (omega (arith, c.digit_limit-last.ensures)) s.invariant
 
 pub loop-rest-preserved : goal.loop-rest-preserved
 loop-rest-preserved c =
