@@ -1,11 +1,11 @@
 -- No two outcomes satisfy a contract as it stands in src/lib.rt.
+use Rattle.std.specs.Prelude.{Result}
 use mathlib.Core.Path.{◌≡◌}
 use contract.Lifetimes.{Lfts}
 use borrow.Fn.Kinds.{Dens, ended_of}
 use denote.Triple.Clauses.{AtExit}
 use Rattle.base.specs.Promise.{one_outcome}
 use Prim.Native.Nat.{ℕ}
-use Rattle.scan.specs.declared.Register.{Register}
 use borrow.Fn.World.{ResD}
 use Rattle.scan.specs.contracts.rest.{signature}
 use mathlib.Core.Bool.{Bool}
@@ -27,6 +27,7 @@ use Rattle.scan.proofs.rest.Kinds as rest-kinds
 use Rattle.scan.proofs.rest.Reads as rest
 use Rattle.scan.proofs.run_len.Kinds as run-len-kinds
 use Rattle.scan.proofs.run_len.Reads as run-len
+use Rattle.tree.specs.declared.Place.{Place}
 
 pub is_blank_one_outcome :
     (κs : Lfts 0) (a : Dens κs is-blank-kinds.ps) (x y : Bool) (s t : AtExit (ended_of 0 is-blank-kinds.ps is-blank-kinds.r) κs)
@@ -54,7 +55,7 @@ pub name_code_one_outcome :
 name_code_one_outcome κs a x y s t p q = one_outcome p q
 
 pub read_register_one_outcome :
-    (κs : Lfts 1) (a : Dens κs read-register-kinds.ps) (x y : Register) (s t : AtExit (ended_of 1 read-register-kinds.ps read-register-kinds.r) κs)
+    (κs : Lfts 1) (a : Dens κs read-register-kinds.ps) (x y : Result (Place × ℕ) ℕ) (s t : AtExit (ended_of 1 read-register-kinds.ps read-register-kinds.r) κs)
     → read-register.Post κs a x s → read-register.Post κs a y t → x ≡ y
 read_register_one_outcome κs a x y s t p q = one_outcome p q
 

@@ -2,13 +2,13 @@
 use Rattle.std.specs.Prelude.{ℕ, ◌+◌, ◌*◌, ◌/◌, ◌%◌, ◌≤◌, ◌<◌, ◌≡◌, refl, List, [], ◌∷◌, ◌++◌, Bool, true, false, ◌&&◌, cond, ltb, leb, eqb, length, get_or}
 use Rattle.std.proofs.Common.{sym, ap, ◌∙◌, subst, arith, lt-ltb, le-ltb, le-leb, ne_eqb, ltb-true, ltb-false, leb-true, eqb-true}
 use Rattle.std.proofs.lemmas.Bool.{eqb-false}
+use Rattle.base.specs.Pairs.{ok_pair}
 use Rattle.signs.specs.Bytes.{is_digit, All}
 use Rattle.signs.specs.Bytes.All.{none, more}
 use Rattle.rules.specs.Shape.{digit, number_text}
 use Rattle.rules.specs.Grammar.{number_limit}
 use Rattle.scan.specs.RunLaws.{not_so, Stops, run_all_lem, split}
-use Rattle.scan.specs.Numbers.{digit_of, number_by, number_found}
-use Rattle.scan.specs.declared.Number.TheVariants.{Got, Bad}
+use Rattle.scan.specs.Numbers.{digit_of, number_got, number_bad, number_by, number_found}
 
 -- ---- digits
 
@@ -36,46 +36,46 @@ by_run : (w r : List ℕ) → All is_digit w → Stops is_digit r
 unfolding number_found
 by_run w r a h = rw (run_all_lem is_digit r a h)
 
-by_one : (a b c : ℕ) → number_by 1 a b c ≡ Got a 1
+by_one : (a b c : ℕ) → number_by 1 a b c ≡ number_got a 1
 unfolding number_by
 by_one a b c = go (eqb a 0) refl
   where
-    go : (t : Bool) → eqb a 0 ≡ t → cond t (Got 0 1) (Got a 1) ≡ Got a 1
+    go : (t : Bool) → eqb a 0 ≡ t → cond t (number_got 0 1) (number_got a 1) ≡ number_got a 1
     go true e = rw (eqb-true a 0 e)
     go false e = refl
 
-by_two : (a b c : ℕ) → 0 < a → number_by 2 a b c ≡ Got (10 * a + b) 2
+by_two : (a b c : ℕ) → 0 < a → number_by 2 a b c ≡ number_got (10 * a + b) 2
 unfolding number_by
 by_two a b c h = rw (ne_eqb a 0 (omega arith))
 
-by_three : (a b c : ℕ) → 0 < a → number_by 3 a b c ≡ Got (100 * a + 10 * b + c) 3
+by_three : (a b c : ℕ) → 0 < a → number_by 3 a b c ≡ number_got (100 * a + 10 * b + c) 3
 unfolding number_by
 by_three a b c h = rw (ne_eqb a 0 (omega arith))
 
 -- ---- every number's text is found
 
-one_found : (v : ℕ) (r : List ℕ) → v < 10 → Stops is_digit r → number_found (digit v ∷ r) ≡ Got v 1
-one_found v r k z = by_run (digit v ∷ []) r (more (digit_is v) none) z ∙ by_one _ _ _ ∙ ap (λ (x : ℕ). Got x 1) (omega arith)
+one_found : (v : ℕ) (r : List ℕ) → v < 10 → Stops is_digit r → number_found (digit v ∷ r) ≡ number_got v 1
+one_found v r k z = by_run (digit v ∷ []) r (more (digit_is v) none) z ∙ by_one _ _ _ ∙ ap (λ (x : ℕ). number_got x 1) (omega arith)
 
-two_found : (v : ℕ) (r : List ℕ) → 10 ≤ v → v < 100 → Stops is_digit r → number_found (digit (v / 10) ∷ digit v ∷ r) ≡ Got v 2
+two_found : (v : ℕ) (r : List ℕ) → 10 ≤ v → v < 100 → Stops is_digit r → number_found (digit (v / 10) ∷ digit v ∷ r) ≡ number_got v 2
 two_found v r j k z =
     by_run (digit (v / 10) ∷ digit v ∷ []) r (more (digit_is (v / 10)) (more (digit_is v) none)) z
-    ∙ by_two _ _ _ (omega arith) ∙ ap (λ (x : ℕ). Got x 2) (omega arith)
+    ∙ by_two _ _ _ (omega arith) ∙ ap (λ (x : ℕ). number_got x 2) (omega arith)
 
-three_found : (v : ℕ) (r : List ℕ) → 100 ≤ v → v < 1000 → Stops is_digit r → number_found (digit (v / 100) ∷ digit (v / 10) ∷ digit v ∷ r) ≡ Got v 3
+three_found : (v : ℕ) (r : List ℕ) → 100 ≤ v → v < 1000 → Stops is_digit r → number_found (digit (v / 100) ∷ digit (v / 10) ∷ digit v ∷ r) ≡ number_got v 3
 three_found v r j k z =
     let a : digit_of (digit (v / 100)) ≡ v / 100 = omega (arith, digit_of_lem (v / 100)) in
     let b : digit_of (digit (v / 10)) ≡ v / 10 % 10 = digit_of_lem (v / 10) in
     let d : digit_of (digit v) ≡ v % 10 = digit_of_lem v in
     let h : v / 100 ≡ v / 10 / 10 = omega arith in
     by_run (digit (v / 100) ∷ digit (v / 10) ∷ digit v ∷ []) r (more (digit_is (v / 100)) (more (digit_is (v / 10)) (more (digit_is v) none))) z
-    ∙ by_three _ _ _ (omega arith) ∙ ap (λ (x : ℕ). Got x 3) (omega arith)
+    ∙ by_three _ _ _ (omega arith) ∙ ap (λ (x : ℕ). number_got x 3) (omega arith)
 
-pub number_complete : (v : ℕ) (r : List ℕ) → v < number_limit → Stops is_digit r → number_found (number_text v ++ r) ≡ Got v (length (number_text v))
+pub number_complete : (v : ℕ) (r : List ℕ) → v < number_limit → Stops is_digit r → number_found (number_text v ++ r) ≡ number_got v (length (number_text v))
 number_complete v r h z = go (ltb v 10) refl (ltb v 100) refl
   where
     go : (t : Bool) → ltb v 10 ≡ t → (u : Bool) → ltb v 100 ≡ u
-        → let w = cond t (digit v ∷ []) (cond u (digit (v / 10) ∷ digit v ∷ []) (digit (v / 100) ∷ digit (v / 10) ∷ digit v ∷ [])) in number_found (w ++ r) ≡ Got v (length w)
+        → let w = cond t (digit v ∷ []) (cond u (digit (v / 10) ∷ digit v ∷ []) (digit (v / 100) ∷ digit (v / 10) ∷ digit v ∷ [])) in number_found (w ++ r) ≡ number_got v (length w)
     go true e u f = one_found v r (ltb-true v 10 e) z
     go false e true f = two_found v r (ltb-false v 10 e) (ltb-true v 100 f) z
     go false e false f = three_found v r (ltb-false v 100 f) h z
@@ -98,7 +98,7 @@ pub record NumberAt (s : List ℕ) (v n : ℕ) : Type 0 where
   pub taken : n ≡ length (number_text v)
   pub stops : Stops is_digit after
 
-never : {A : Type 0} (p v n : ℕ) → Bad p ≡ Got v n → A
+never : {A : Type 0} (p v n : ℕ) → number_bad p ≡ number_got v n → A
 never p v n e = let z : ◌≡◌ {A = ℕ} 0 1 = cc in absurd (omega arith)
 
 pub one_text : (v : ℕ) → v < 10 → number_text v ≡ (v + 48) ∷ []
@@ -120,45 +120,44 @@ three_text a b c h i j k =
     (ap (λ (d : ℕ). d ∷ digit (v / 10) ∷ digit v ∷ []) x ∙ ap (λ (d : ℕ). (a + 48) ∷ d ∷ digit v ∷ []) y ∙ ap (λ (d : ℕ). (a + 48) ∷ (b + 48) ∷ d ∷ []) z)
 
 -- what a count and digits that give a number say of it
-zero_got : {A : Type 0} (a b c v n : ℕ) → number_by 0 a b c ≡ Got v n → A
+zero_got : {A : Type 0} (a b c v n : ℕ) → number_by 0 a b c ≡ number_got v n → A
 unfolding number_by
 zero_got a b c v n e = never 0 v n e
 
-two_got : (a b c v n : ℕ) → number_by 2 a b c ≡ Got v n → (0 < a) × (10 * a + b ≡ v) × (2 ≡ n)
+two_got : (a b c v n : ℕ) → number_by 2 a b c ≡ number_got v n → (0 < a) × (10 * a + b ≡ v) × (2 ≡ n)
 unfolding number_by
 two_got a b c v n e = go (eqb a 0) refl e
   where
-    go : (t : Bool) → eqb a 0 ≡ t → cond t (Bad 1) (Got (10 * a + b) 2) ≡ Got v n → (0 < a) × (10 * a + b ≡ v) × (2 ≡ n)
+    go : (t : Bool) → eqb a 0 ≡ t → cond t (number_bad 1) (number_got (10 * a + b) 2) ≡ number_got v n → (0 < a) × (10 * a + b ≡ v) × (2 ≡ n)
     go true q f = never 1 v n f
-    go false q f = (omega (arith, eqb-false a 0 q), (cc), (cc))
+    go false q f = let (x, y) = ok_pair f in (omega (arith, eqb-false a 0 q), x, y)
 
-three_got : (a b c v n : ℕ) → number_by 3 a b c ≡ Got v n → (0 < a) × (100 * a + 10 * b + c ≡ v) × (3 ≡ n)
+three_got : (a b c v n : ℕ) → number_by 3 a b c ≡ number_got v n → (0 < a) × (100 * a + 10 * b + c ≡ v) × (3 ≡ n)
 unfolding number_by
 three_got a b c v n e = go (eqb a 0) refl e
   where
-    go : (t : Bool) → eqb a 0 ≡ t → cond t (Bad 1) (Got (100 * a + 10 * b + c) 3) ≡ Got v n → (0 < a) × (100 * a + 10 * b + c ≡ v) × (3 ≡ n)
+    go : (t : Bool) → eqb a 0 ≡ t → cond t (number_bad 1) (number_got (100 * a + 10 * b + c) 3) ≡ number_got v n → (0 < a) × (100 * a + 10 * b + c ≡ v) × (3 ≡ n)
     go true q f = never 1 v n f
-    go false q f = (omega (arith, eqb-false a 0 q), (cc), (cc))
+    go false q f = let (x, y) = ok_pair f in (omega (arith, eqb-false a 0 q), x, y)
 
-many_got : {A : Type 0} (k a b c v n : ℕ) → 4 ≤ k → number_by k a b c ≡ Got v n → A
+many_got : {A : Type 0} (k a b c v n : ℕ) → 4 ≤ k → number_by k a b c ≡ number_got v n → A
 unfolding number_by
 many_got {A} k a b c v n h e =
     go (eqb a 0) (simp (ne_eqb k 0 (omega arith), ne_eqb k 1 (omega arith), ne_eqb k 2 (omega arith), ne_eqb k 3 (omega arith)) at e)
   where
-    go : (t : Bool) → cond t (Bad 1) (Bad 3) ≡ Got v n → A
+    go : (t : Bool) → cond t (number_bad 1) (number_bad 3) ≡ number_got v n → A
     go true f = never 1 v n f
     go false f = never 3 v n f
 
 text_at : (w r : List ℕ) (v n : ℕ) → w ≡ number_text v → v < 1000 → n ≡ length w → Stops is_digit r → NumberAt (w ++ r) v n
 text_at w r v n d h l z = record { after = r; whole = ap (λ (x : List ℕ). x ++ r) d; small = h; taken = l ∙ ap length d; stops = z }
 
-sound_by : (w r : List ℕ) → All is_digit w → Stops is_digit r → (v n : ℕ) → number_found (w ++ r) ≡ Got v n → NumberAt (w ++ r) v n
+sound_by : (w r : List ℕ) → All is_digit w → Stops is_digit r → (v n : ℕ) → number_found (w ++ r) ≡ number_got v n → NumberAt (w ++ r) v n
 sound_by w r none z v n e = zero_got _ _ _ v n (sym (by_run [] r none z) ∙ e)
 sound_by w r (more {b = x} p none) z v n e =
-    let g : Got (digit_of x) 1 ≡ Got v n = sym (by_one _ _ _) ∙ sym (by_run w r (more p none) z) ∙ e in
+    let g : number_got (digit_of x) 1 ≡ number_got v n = sym (by_one _ _ _) ∙ sym (by_run w r (more p none) z) ∙ e in
     let h = digit_range x p in
-    let d : digit_of x ≡ v = cc in
-    let k : 1 ≡ n = cc in
+    let (d, k) = ok_pair g in
     text_at w r v n (sym (ap (λ (b : ℕ). b ∷ []) (digit_back x p)) ∙ sym (one_text (digit_of x) (omega arith)) ∙ ap number_text d) (omega arith) (sym k) z
 sound_by w r (more {b = x} p (more {b = y} q none)) z v n e =
     let g = two_got _ _ _ v n (sym (by_run w r (more p (more q none)) z) ∙ e) in
@@ -176,7 +175,7 @@ sound_by w r (more {b = x} p (more {b = y} q (more {b = u} t none))) z v n e =
 sound_by w r (more p (more q (more t (more {w = l} o k)))) z v n e =
     many_got (length w) _ _ _ v n (omega arith) (sym (by_run w r (more p (more q (more t (more o k)))) z) ∙ e)
 
-pub number_sound : (s : List ℕ) (v n : ℕ) → number_found s ≡ Got v n → NumberAt s v n
+pub number_sound : (s : List ℕ) (v n : ℕ) → number_found s ≡ number_got v n → NumberAt s v n
 number_sound s v n e =
     let k = split is_digit refl s in
     subst (λ (l : List ℕ). NumberAt l v n) (sym k.whole) (sound_by k.front k.back k.all k.stops v n (rw k.whole at e))

@@ -1,5 +1,6 @@
 -- Every good tree's text is read, and the reader keeps of it what it should.
-use Rattle.std.specs.Prelude.{ℕ, ◌+◌, ◌≤◌, ◌≡◌, refl, List, [], ◌∷◌, ◌++◌, Bool, true, false, cond, eqb, length, get_or, drop}
+use Rattle.std.specs.Prelude.{ℕ, ◌+◌, ◌≤◌, ◌≡◌, refl, List, [], ◌∷◌, ◌++◌, Bool, true, false, cond, eqb, length, get_or, drop, Ok}
+use Rattle.std.specs.Result.{is_ok}
 use Rattle.std.proofs.Common.{sym, ap, ◌∙◌, append_assoc, append-nil, arith, ne_eqb, le-ltb, length-append}
 use Rattle.std.proofs.Math.Seq.{drop-append_seam}
 use Rattle.signs.specs.Bytes.{is_blank, is_name_byte, All, Some}
@@ -19,14 +20,12 @@ use Rattle.shape.specs.OperandLaws.{operand_first}
 use Rattle.shape.specs.HeadLaws.{HeadRead, head_complete}
 use Rattle.shape.specs.ListLaws.{ListRead, operands_complete}
 use Rattle.shape.specs.GuardLaws.{blank_first, name_first, guard_complete, guard_first}
-use Rattle.shape.specs.Guard.{guard_of}
-use Rattle.shape.specs.Line.{stopped_at, from_end, from_operands, from_gap, from_head, guarded_by, shape_of}
-use Rattle.shape.specs.declared.GuardRead.TheVariants.{Got}
-use Rattle.shape.specs.declared.Scanned.{Scanned}
+use Rattle.shape.specs.Guard.{guard_got, guard_of}
+use Rattle.shape.specs.Line.{Scanned, parts_of, stopped_at, from_end, from_operands, from_gap, from_head, guarded_by, shape_of}
 
 -- ---- each stage, where it finds what it should
 
-after_blanks : (p : ℕ) (x : Parts) (b : List ℕ) → All is_blank b → from_end p x b ≡ record { good = true; place = capped_sum p (length b); parts = x }
+after_blanks : (p : ℕ) (x : Parts) (b : List ℕ) → All is_blank b → from_end p x b ≡ Ok x
 unfolding from_end
 after_blanks p x b a =
     let e : run_length is_blank b ≡ length b = ap (run_length is_blank) (sym (append-nil b)) ∙ run_all_lem is_blank [] a refl in
@@ -58,8 +57,7 @@ after_head p g w n h r = go (head_at w).good (head_at w).place (head_at w).head 
     go : (t : Bool) (m : ℕ) (q : Head) → t ≡ true → m ≡ n → q ≡ h → named p g w t m q ≡ from_gap (capped_sum p n) g h (drop n w)
     go t m q a b c = rw (a, b, c)
 
-pub after_guard : (p : ℕ) (g : Guarding) (a r : List ℕ) → guard_of (a ++ r) ≡ Got g (length a) → guarded_by p (guard_of (a ++ r)) (a ++ r) ≡ from_head (capped_sum p (length a)) g r
-unfolding guarded_by
+pub after_guard : (p : ℕ) (g : Guarding) (a r : List ℕ) → guard_of (a ++ r) ≡ guard_got g (length a) → guarded_by p (guard_of (a ++ r)) (a ++ r) ≡ from_head (capped_sum p (length a)) g r
 after_guard p g a r e = rw (e, drop-append_seam a r)
 
 pub after_before : (b r : List ℕ) → All is_blank b → Stops is_blank r → shape_of (b ++ r) ≡ guarded_by (length b) (guard_of r) r
@@ -83,8 +81,8 @@ past_list e f g h =
     let q : e ++ (f ++ (g ++ (59 ∷ h))) ≡ a ++ h = simp append_assoc in
     ap (λ (n : ℕ). drop n (e ++ (f ++ (g ++ (59 ∷ h))))) (sym l) ∙ ap (drop (length a)) q ∙ drop-append_seam a h
 
-pub shape_complete : (t : LineTree) → Good t → length (line_text t) ≤ 160 → ((shape_of (line_text t)).good ≡ true) × ((shape_of (line_text t)).parts ≡ seen t)
-shape_complete t good m = (ap (λ (s : Scanned). s.good) whole, ap (λ (s : Scanned). s.parts) whole)
+pub shape_is : (t : LineTree) → Good t → length (line_text t) ≤ 160 → shape_of (line_text t) ≡ Ok (seen t)
+shape_is t good m = whole
   where
     guard : List ℕ
     guard = guard_tree_text t.guard
@@ -134,7 +132,7 @@ shape_complete t good m = (ap (λ (s : Scanned). s.good) whole, ap (λ (s : Scan
     h : Head
     h = seen_head (t.opcode ∷ t.modifiers)
 
-    whole : shape_of (line_text t) ≡ record { good = true; place = capped_sum place (length t.behind); parts = seen t }
+    whole : shape_of (line_text t) ≡ Ok (seen t)
     whole =
         ap shape_of (line_joined t.before guard head t.gap operand others t.ending t.behind)
         ∙ after_before t.before (guard ++ text_from_head) good.before (guard_first t.guard text_from_head first_byte)
@@ -149,6 +147,9 @@ shape_complete t good m = (ap (λ (s : Scanned). s.good) whole, ap (λ (s : Scan
         ∙ ap (from_end place (seen t)) (past_list operand others t.ending t.behind)
         ∙ after_blanks place (seen t) t.behind good.behind
 
+pub shape_complete : (t : LineTree) → Good t → length (line_text t) ≤ 160 → (is_ok (shape_of (line_text t)) ≡ true) × (parts_of (shape_of (line_text t)) ≡ seen t)
+shape_complete t good m = let e = shape_is t good m in (ap is_ok e, ap parts_of e)
+
 -- no text is of two trees of which the reader keeps different parts
 pub shape_one : (t u : LineTree) → Good t → Good u → length (line_text t) ≤ 160 → line_text t ≡ line_text u → seen t ≡ seen u
-shape_one t u g h m e = sym (shape_complete t g m).1 ∙ ap (λ (l : List ℕ). (shape_of l).parts) e ∙ (shape_complete u h (omega (arith, ap length e))).1
+shape_one t u g h m e = sym (shape_complete t g m).1 ∙ ap (λ (l : List ℕ). parts_of (shape_of l)) e ∙ (shape_complete u h (omega (arith, ap length e))).1

@@ -1,5 +1,5 @@
 -- The limit of turns is never reached: of a line of at most 160 bytes every loop ends by itself.
-use Rattle.std.specs.Prelude.{ℕ, ◌≤◌, ◌<◌, ◌≡◌, refl, List, [], ◌∷◌, Bool, true, false, cond, eqb, length, get_or, drop, take}
+use Rattle.std.specs.Prelude.{ℕ, ◌≤◌, ◌<◌, ◌≡◌, refl, List, [], ◌∷◌, Bool, true, false, cond, eqb, length, get_or, drop, take, Err, Ok, Result}
 use Rattle.std.proofs.Common.{sym, ◌∙◌, arith, length-drop}
 use Rattle.signs.specs.Bytes.{is_blank, is_name_byte}
 use Rattle.base.specs.Pack.{code_of}
@@ -10,17 +10,14 @@ use Rattle.scan.specs.RunLaws.{not_so, sum_some}
 use Rattle.scan.specs.Registers.{prefix_by, register_by, register_of}
 use Rattle.shape.specs.Turns.{most_turns}
 use Rattle.shape.specs.TurnLaws.{enough}
-use Rattle.shape.specs.Operand.{first_of, operand_scanned}
-use Rattle.shape.specs.Head.{start_names, pushed_name, name_by, name_turn, head_of}
+use Rattle.shape.specs.Operand.{operand_bad, first_of, operand_scanned}
+use Rattle.shape.specs.Head.{Names, start_names, pushed_name, name_by, name_turn, head_of}
 use Rattle.shape.specs.HeadLaws as head
-use Rattle.shape.specs.Operands.{pushed_tree, start_list, divider_by, divider_of, divided_by, operand_by, operand_turn, operands_scanned}
+use Rattle.shape.specs.Operands.{Listed, pushed_tree, start_list, divider_by, divider_of, divided_by, operand_by, operand_turn, operands_scanned}
 use Rattle.shape.specs.ListLaws as list
-use Rattle.shape.specs.declared.Names.{Names}
-use Rattle.shape.specs.declared.OperandRead.{OperandRead}
-use Rattle.shape.specs.declared.OperandRead.TheVariants.{Got, Bad}
 use Rattle.shape.specs.declared.Divider.{Divider}
 use Rattle.shape.specs.declared.Divider.TheVariants as divider
-use Rattle.shape.specs.declared.Listed.{Listed}
+use Rattle.tree.specs.declared.Tree.{Tree}
 
 -- a step into a list leaves less of it
 shorter : (x : ℕ) (w : List ℕ) (n : ℕ) → 0 < n → length (drop n (x ∷ w)) < length (x ∷ w)
@@ -59,7 +56,7 @@ head_ends w m = enough head.going head.took name_turn name_less most_turns w sta
 
 -- ---- operands
 
-divider_some : (r : List ℕ) (m : ℕ) → divider_of r ≡ divider.Comma m → 0 < m
+divider_some : (r : List ℕ) (m : ℕ) → divider_of r ≡ Ok (divider.Comma m) → 0 < m
 unfolding divider_of divider_by
 divider_some r m e = go (eqb b 44) (eqb b 59) e
   where
@@ -72,7 +69,7 @@ divider_some r m e = go (eqb b 44) (eqb b 59) e
     k : ℕ
     k = run_length is_blank (drop 1 (drop n r))
 
-    go : (t u : Bool) → cond t (divider.Comma (capped_sum (capped_sum n 1) k)) (cond u (divider.Semicolon (capped_sum n 1)) (divider.Bad n)) ≡ divider.Comma m → 0 < m
+    go : (t u : Bool) → ◌≡◌ {A = Result Divider ℕ} (cond t (Ok (divider.Comma (capped_sum (capped_sum n 1) k))) (cond u (Ok (divider.Semicolon (capped_sum n 1))) (Err n))) (Ok (divider.Comma m)) → 0 < m
     go true u f =
         let q : capped_sum (capped_sum n 1) k ≡ m = cc in
         let i = sum_some n 1 (omega arith) in
@@ -81,22 +78,22 @@ divider_some r m e = go (eqb b 44) (eqb b 59) e
     go false true f = let z : ◌≡◌ {A = ℕ} 0 1 = cc in absurd (omega arith)
     go false false f = let z : ◌≡◌ {A = ℕ} 0 1 = cc in absurd (omega arith)
 
-divided_less : (p : ℕ) (o : Operands) (n : ℕ) (r : List ℕ) (d : Divider) → divider_of r ≡ d → (x : ℕ) (w : List ℕ) → (divided_by p o n d).more ≡ true → length (drop (divided_by p o n d).step (x ∷ w)) < length (x ∷ w)
+divided_less : (p : ℕ) (o : Operands) (n : ℕ) (r : List ℕ) (d : Result Divider ℕ) → divider_of r ≡ d → (x : ℕ) (w : List ℕ) → (divided_by p o n d).more ≡ true → length (drop (divided_by p o n d).step (x ∷ w)) < length (x ∷ w)
 unfolding divided_by
-divided_less p o n r (divider.Comma m) q x w e = let i = divider_some r m q in shorter x w (capped_sum n m) (sum_some n m (omega arith))
-divided_less p o n r (divider.Semicolon m) q x w e = not_so e
-divided_less p o n r (divider.Bad m) q x w e = not_so e
+divided_less p o n r (Ok (divider.Comma m)) q x w e = let i = divider_some r m q in shorter x w (capped_sum n m) (sum_some n m (omega arith))
+divided_less p o n r (Ok (divider.Semicolon m)) q x w e = not_so e
+divided_less p o n r (Err m) q x w e = not_so e
 
-read_less : (st : Listed) (x : ℕ) (w : List ℕ) (r : OperandRead) → (operand_by st r (x ∷ w)).more ≡ true → length (drop (operand_by st r (x ∷ w)).step (x ∷ w)) < length (x ∷ w)
+read_less : (st : Listed) (x : ℕ) (w : List ℕ) (r : Result (Tree × ℕ) ℕ) → (operand_by st r (x ∷ w)).more ≡ true → length (drop (operand_by st r (x ∷ w)).step (x ∷ w)) < length (x ∷ w)
 unfolding operand_by
-read_less st x w (Got t n) e = divided_less st.place (pushed_tree st.operands t) n (drop n (x ∷ w)) (divider_of (drop n (x ∷ w))) refl x w e
-read_less st x w (Bad p) e = not_so e
+read_less st x w (Ok (t, n)) e = divided_less st.place (pushed_tree st.operands t) n (drop n (x ∷ w)) (divider_of (drop n (x ∷ w))) refl x w e
+read_less st x w (Err p) e = not_so e
 
-nothing_read : operand_scanned [] ≡ Bad 0
+nothing_read : operand_scanned [] ≡ operand_bad 0
 unfolding operand_scanned first_of register_of register_by prefix_by
 nothing_read = refl
 
-nothing_stops : (st : Listed) (r : OperandRead) → r ≡ Bad 0 → (operand_by st r []).more ≡ false
+nothing_stops : (st : Listed) (r : Result (Tree × ℕ) ℕ) → r ≡ operand_bad 0 → (operand_by st r []).more ≡ false
 unfolding operand_by
 nothing_stops st r e = rw e
 

@@ -14,8 +14,7 @@ use Rattle.scan.specs.RunLaws.{Stops, run_all_lem, sum_is}
 use Rattle.scan.specs.Registers.{register_of}
 use Rattle.scan.specs.RegisterLaws.{register_complete, register_first}
 use Rattle.shape.specs.OperandLaws.{blank_either}
-use Rattle.shape.specs.Guard.{guard_by, guard_of}
-use Rattle.shape.specs.declared.GuardRead.TheVariants.{Got}
+use Rattle.shape.specs.Guard.{guard_got, guard_by, guard_of}
 
 -- ---- first bytes
 
@@ -47,7 +46,7 @@ name_no_blank b e = rw (apart is_name_byte b 32 e refl, apart is_name_byte b 9 e
 -- ---- the guard
 
 by_register_lem : (negated : Bool) (k : ℕ) (p : files.Place) (b r : List ℕ) → GoodPlace p → Some is_blank b → Stops is_blank r → k + length (register_text p) + length b ≤ most
-    → let w = register_text p ++ (b ++ r) in guard_by negated k (register_of w) w ≡ Got (Guarded negated (seen_place p)) (k + length (register_text p) + length b)
+    → let w = register_text p ++ (b ++ r) in guard_by negated k (register_of w) w ≡ guard_got (Guarded negated (seen_place p)) (k + length (register_text p) + length b)
 unfolding guard_by
 by_register_lem negated k p b r g s z m =
     let l = s.some in
@@ -60,19 +59,19 @@ by_register_lem negated k p b r g s z m =
     )
 
 pub guard_complete : (g : GuardTree) (r : List ℕ) → GoodGuard g → is_name_byte (get_or r 0 0) ≡ true → length (guard_tree_text g) ≤ most
-    → guard_of (guard_tree_text g ++ r) ≡ Got (seen_guard g) (length (guard_tree_text g))
+    → guard_of (guard_tree_text g ++ r) ≡ guard_got (seen_guard g) (length (guard_tree_text g))
 unfolding guard_of
 guard_complete unguarded r h e m = rw (apart is_name_byte (get_or r 0 0) 64 e refl)
 guard_complete (guarded true p b) r h e m =
     let l = length-append (register_text p) b in
     ap (λ (w : List ℕ). guard_by true 2 (register_of w) w) (append_assoc (register_text p) b r)
     ∙ by_register_lem true 2 p b r h.0 h.1 (name_no_blank (get_or r 0 0) e) (omega arith)
-    ∙ ap (Got (Guarded true (seen_place p))) (omega arith)
+    ∙ ap (guard_got (Guarded true (seen_place p))) (omega arith)
 guard_complete (guarded false p b) r h e m =
     let l = length-append (register_text p) b in
     rw (append_assoc (register_text p) b r, register_first p (b ++ r))
     (by_register_lem false 1 p b r h.0 h.1 (name_no_blank (get_or r 0 0) e) (omega arith)
-    ∙ ap (Got (Guarded false (seen_place p))) (omega arith))
+    ∙ ap (guard_got (Guarded false (seen_place p))) (omega arith))
 
 -- a guard's text with a head behind it does not begin with a blank
 pub guard_first : (g : GuardTree) (r : List ℕ) → is_name_byte (get_or r 0 0) ≡ true → Stops is_blank (guard_tree_text g ++ r)

@@ -13,9 +13,8 @@ use Rattle.scan.specs.Runs.{most}
 use Rattle.scan.specs.RunLaws.{Stops, run_all_lem, seam, past_seam, sum_is}
 use Rattle.shape.specs.Turns.{most_turns}
 use Rattle.shape.specs.TurnLaws.{next_turn, last_turn}
-use Rattle.shape.specs.Head.{no_head, pushed_name, name_by, name_turn, name_turns, head_of}
+use Rattle.shape.specs.Head.{Names, no_head, pushed_name, name_by, name_turn, name_turns, head_of}
 use Rattle.shape.specs.KeptLaws.{kept_names, kept_names_lem}
-use Rattle.shape.specs.declared.Names.{Names}
 
 -- a name must follow; the head is whole
 abbrev pub on : ℕ → ℕ → Head → Names

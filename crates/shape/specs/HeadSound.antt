@@ -13,10 +13,9 @@ use Rattle.scan.specs.Runs.{most}
 use Rattle.scan.specs.RunLaws.{not_so, Stops, split, run_all_lem, at_is}
 use Rattle.shape.specs.Turns.{turns, most_turns}
 use Rattle.shape.specs.TurnLaws.{last_turn}
-use Rattle.shape.specs.Head.{no_head, pushed_name, name_by, name_turn, name_turns, head_of}
+use Rattle.shape.specs.Head.{Names, no_head, pushed_name, name_by, name_turn, name_turns, head_of}
 use Rattle.shape.specs.HeadLaws.{on, going, took, last_name, next_name, few_names}
 use Rattle.shape.specs.KeptLaws.{kept_names, kept_names_lem}
-use Rattle.shape.specs.declared.Names.{Names}
 
 -- names stand at the front of w, which end a head of p bytes and of the names h
 record NamesAt (w : List ℕ) (p : ℕ) (h : Head) (st : Names) : Type 0 where

@@ -1,5 +1,5 @@
 -- Every list of operands is read as those operands.
-use Rattle.std.specs.Prelude.{ℕ, suc, zero, ◌+◌, ◌≤◌, ◌<◌, ◌≡◌, refl, List, [], ◌∷◌, ◌++◌, map, Bool, true, false, length, get_or, drop}
+use Rattle.std.specs.Prelude.{ℕ, suc, zero, ◌+◌, ◌≤◌, ◌<◌, ◌≡◌, refl, List, [], ◌∷◌, ◌++◌, map, Bool, true, false, length, get_or, drop, Ok}
 use Rattle.std.proofs.Common.{ap, ◌∙◌, append_assoc, arith, length-append}
 use Rattle.std.proofs.lemmas.List.{length-map}
 use Rattle.std.proofs.Math.Seq.{drop-append_seam, drop-append-add}
@@ -14,19 +14,18 @@ use Rattle.scan.specs.RunLaws.{Stops, run_all_lem, sum_is}
 use Rattle.shape.specs.Turns.{most_turns}
 use Rattle.shape.specs.TurnLaws.{next_turn, last_turn}
 use Rattle.shape.specs.OperandLaws.{Edge, edge_after, operand_complete, operand_first}
-use Rattle.shape.specs.Operands.{no_operands, pushed_tree, divider_by, divider_of, divided_by, operand_by, operand_turn, operand_turns, operands_scanned}
+use Rattle.shape.specs.Operands.{Listed, no_operands, pushed_tree, divider_by, divider_of, divided_by, operand_by, operand_turn, operand_turns, operands_scanned}
 use Rattle.shape.specs.KeptLaws.{kept_operands, kept_operands_lem}
 use Rattle.shape.specs.declared.Divider.TheVariants.{Comma, Semicolon}
-use Rattle.shape.specs.declared.Listed.{Listed}
 
 -- ---- what divides operands
 
-pub comma_found : (b a r : List ℕ) → All is_blank b → All is_blank a → Stops is_blank r → length b + 1 + length a ≤ most → divider_of (b ++ (44 ∷ (a ++ r))) ≡ Comma (length b + 1 + length a)
+pub comma_found : (b a r : List ℕ) → All is_blank b → All is_blank a → Stops is_blank r → length b + 1 + length a ≤ most → divider_of (b ++ (44 ∷ (a ++ r))) ≡ Ok (Comma (length b + 1 + length a))
 unfolding divider_of divider_by
 comma_found b a r x y z m =
     rw (run_all_lem is_blank (44 ∷ (a ++ r)) x refl, drop-append_seam b (44 ∷ (a ++ r)), run_all_lem is_blank r y z, sum_is (length b) 1 (omega arith), sum_is (length b + 1) (length a) m)
 
-pub semicolon_found : (b r : List ℕ) → All is_blank b → length b + 1 ≤ most → divider_of (b ++ (59 ∷ r)) ≡ Semicolon (length b + 1)
+pub semicolon_found : (b r : List ℕ) → All is_blank b → length b + 1 ≤ most → divider_of (b ++ (59 ∷ r)) ≡ Ok (Semicolon (length b + 1))
 unfolding divider_of divider_by
 semicolon_found b r x m = rw (run_all_lem is_blank (59 ∷ r) x refl, drop-append_seam b (59 ∷ r), sum_is (length b) 1 m)
 
@@ -43,11 +42,11 @@ turn_operand : (t : OperandTree) (r : List ℕ) (p s : ℕ) (o : Operands) → G
 unfolding operand_turn operand_by
 turn_operand t r p s o g e m = rw (operand_complete t r g e m, drop-append_seam (operand_text t) r)
 
-by_comma : (p : ℕ) (o : Operands) (n m : ℕ) → p + n + m ≤ most → divided_by p o n (Comma m) ≡ on (p + n + m) (n + m) o
+by_comma : (p : ℕ) (o : Operands) (n m : ℕ) → p + n + m ≤ most → divided_by p o n (Ok (Comma m)) ≡ on (p + n + m) (n + m) o
 unfolding divided_by
 by_comma p o n m h = rw (sum_is p n (omega arith), sum_is (p + n) m h, sum_is n m (omega arith))
 
-by_semicolon : (p : ℕ) (o : Operands) (n m : ℕ) → p + n + m ≤ most → divided_by p o n (Semicolon m) ≡ over (p + n + m) (n + m) o
+by_semicolon : (p : ℕ) (o : Operands) (n m : ℕ) → p + n + m ≤ most → divided_by p o n (Ok (Semicolon m)) ≡ over (p + n + m) (n + m) o
 unfolding divided_by
 by_semicolon p o n m h = rw (sum_is p n (omega arith), sum_is (p + n) m h, sum_is n m (omega arith))
 

@@ -1,5 +1,5 @@
 -- What the scanner of operands finds is a list of operands.
-use Rattle.std.specs.Prelude.{ℕ, suc, zero, ◌+◌, ◌≤◌, ◌≡◌, refl, List, [], ◌∷◌, ◌++◌, Bool, true, false, eqb, length, get_or, drop}
+use Rattle.std.specs.Prelude.{ℕ, suc, zero, ◌+◌, ◌≤◌, ◌≡◌, refl, List, [], ◌∷◌, ◌++◌, Bool, true, false, eqb, length, get_or, drop, Err, Result}
 use Rattle.std.proofs.Common.{sym, ap, ◌∙◌, subst, arith, eqb-true, length-append}
 use Rattle.std.proofs.lemmas.List.{length-map}
 use Rattle.std.proofs.Math.Seq.{drop-append_seam}
@@ -14,15 +14,11 @@ use Rattle.scan.specs.Runs.{capped_sum, most}
 use Rattle.scan.specs.RunLaws.{not_so, Stops, split, run_all_lem, at_is}
 use Rattle.shape.specs.Turns.{turns, most_turns}
 use Rattle.shape.specs.TurnLaws.{last_turn}
-use Rattle.shape.specs.Operand.{operand_scanned}
+use Rattle.shape.specs.Operand.{operand_got, operand_bad, operand_scanned}
 use Rattle.shape.specs.OperandSound.{operand_sound}
-use Rattle.shape.specs.Operands.{no_operands, pushed_tree, divider_by, divider_of, divided_by, operand_by, operand_turn, operand_turns, operands_scanned}
+use Rattle.shape.specs.Operands.{Listed, no_operands, pushed_tree, divider_by, divider_of, divided_by, operand_by, operand_turn, operand_turns, operands_scanned}
 use Rattle.shape.specs.ListLaws.{on, going, took, last_operand, next_operand, operands_in, divided_joined, divided_length, few_operands}
 use Rattle.shape.specs.KeptLaws.{kept_operands, kept_operands_lem}
-use Rattle.shape.specs.declared.OperandRead.{OperandRead}
-use Rattle.shape.specs.declared.OperandRead.TheVariants as operand
-use Rattle.shape.specs.declared.Divider.TheVariants.{Bad}
-use Rattle.shape.specs.declared.Listed.{Listed}
 
 -- operands stand at the front of w, with what ends them, which end a list of p bytes and of the operands o
 record ListAt (w : List ℕ) (p : ℕ) (o : Operands) (st : Listed) : Type 0 where
@@ -43,20 +39,20 @@ Sound k = (w : List ℕ) (p s : ℕ) (o : Operands) → p + length w ≤ most �
 
 -- ---- turns that find nothing right
 
-no_operand : (w : List ℕ) (p s : ℕ) (o : Operands) (k q : ℕ) → operand_scanned w ≡ operand.Bad q → (operand_turns (suc k) w (on p s o)).good ≡ false
+no_operand : (w : List ℕ) (p s : ℕ) (o : Operands) (k q : ℕ) → operand_scanned w ≡ operand_bad q → (operand_turns (suc k) w (on p s o)).good ≡ false
 unfolding operand_turn operand_by
 no_operand w p s o k q e = ap (λ (x : Listed). x.good) (last_turn going took operand_turn k w (on p s o) (record { more = false; good = false; place = capped_sum p q; step = 0; operands = o }) refl (rw e) refl)
 
-no_divider : (r : List ℕ) (b c : List ℕ) → r ≡ b ++ c → All is_blank b → Stops is_blank c → eqb (get_or c 0 0) 44 ≡ false → eqb (get_or c 0 0) 59 ≡ false → divider_of r ≡ Bad (length b)
+no_divider : (r : List ℕ) (b c : List ℕ) → r ≡ b ++ c → All is_blank b → Stops is_blank c → eqb (get_or c 0 0) 44 ≡ false → eqb (get_or c 0 0) 59 ≡ false → divider_of r ≡ Err (length b)
 unfolding divider_of divider_by
 no_divider r b c d a z e f = rw (d, run_all_lem is_blank c a z, drop-append_seam b c, e, f)
 
-turn_bad : (w : List ℕ) (p s : ℕ) (o : Operands) (t : Tree) (n q : ℕ) (r : List ℕ) → operand_scanned w ≡ operand.Got t n → drop n w ≡ r → divider_of r ≡ Bad q
+turn_bad : (w : List ℕ) (p s : ℕ) (o : Operands) (t : Tree) (n q : ℕ) (r : List ℕ) → operand_scanned w ≡ operand_got t n → drop n w ≡ r → divider_of r ≡ Err q
     → operand_turn w (on p s o) ≡ record { more = false; good = false; place = capped_sum (capped_sum p n) q; step = 0; operands = pushed_tree o t }
 unfolding operand_turn operand_by divided_by
 turn_bad w p s o t n q r e d f = rw (e, d, f)
 
-nothing_divides : (w : List ℕ) (p s : ℕ) (o : Operands) (k : ℕ) (t : Tree) (n q : ℕ) (r : List ℕ) → operand_scanned w ≡ operand.Got t n → drop n w ≡ r → divider_of r ≡ Bad q
+nothing_divides : (w : List ℕ) (p s : ℕ) (o : Operands) (k : ℕ) (t : Tree) (n q : ℕ) (r : List ℕ) → operand_scanned w ≡ operand_got t n → drop n w ≡ r → divider_of r ≡ Err q
     → (operand_turns (suc k) w (on p s o)).good ≡ false
 nothing_divides w p s o k t n q r e d f =
     ap (λ (x : Listed). x.good) (last_turn going took operand_turn k w (on p s o) (record { more = false; good = false; place = capped_sum (capped_sum p n) q; step = 0; operands = pushed_tree o t }) refl (turn_bad w p s o t n q r e d f) refl)
@@ -119,7 +115,7 @@ comma_sound k ih t b a r g x y z p s o m e =
 abbrev Claim : ℕ → ℕ → ℕ → Operands → List ℕ → Type 0
 Claim k p s o w = p + length w ≤ most → (operand_turns (suc k) w (on p s o)).good ≡ true → ListAt w p o (operand_turns (suc k) w (on p s o))
 
-by_sign : (k : ℕ) → Sound k → (t : OperandTree) (n : ℕ) (b c : List ℕ) → GoodOperand t → operand_scanned (operand_text t ++ (b ++ c)) ≡ operand.Got (seen_operand t) n → n ≡ length (operand_text t)
+by_sign : (k : ℕ) → Sound k → (t : OperandTree) (n : ℕ) (b c : List ℕ) → GoodOperand t → operand_scanned (operand_text t ++ (b ++ c)) ≡ operand_got (seen_operand t) n → n ≡ length (operand_text t)
     → All is_blank b → Stops is_blank c → (p s : ℕ) (o : Operands) (u : Bool) → eqb (get_or c 0 0) 44 ≡ u → (v : Bool) → eqb (get_or c 0 0) 59 ≡ v → Claim k p s o (operand_text t ++ (b ++ c))
 by_sign k ih t n b c g q l x z p s o true e v f m h =
     let d : c ≡ 44 ∷ drop 1 c = at_is c 0 44 (omega arith) (eqb-true (get_or c 0 0) 44 e) in
@@ -134,13 +130,13 @@ by_sign k ih t n b c g q l x z p s o false e false f m h =
     let d : drop n w ≡ b ++ c = ap (λ (i : ℕ). drop i w) l ∙ drop-append_seam (operand_text t) (b ++ c) in
     not_so (sym (nothing_divides w p s o k (seen_operand t) n (length b) (b ++ c) q d (no_divider (b ++ c) b c refl x z e f)) ∙ h)
 
-by_operand : (k : ℕ) → Sound k → (w : List ℕ) (p s : ℕ) (o : Operands) (r : OperandRead) → operand_scanned w ≡ r → Claim k p s o w
-by_operand k ih w p s o (operand.Bad q) e m h = not_so (sym (no_operand w p s o k q e) ∙ h)
-by_operand k ih w p s o (operand.Got t n) e m h =
+by_operand : (k : ℕ) → Sound k → (w : List ℕ) (p s : ℕ) (o : Operands) (r : Result (Tree × ℕ) ℕ) → operand_scanned w ≡ r → Claim k p s o w
+by_operand k ih w p s o (Err q) e m h = not_so (sym (no_operand w p s o k q e) ∙ h)
+by_operand k ih w p s o (operand_got t n) e m h =
     let a = operand_sound w t n (omega arith) e in
     let x = split is_blank refl a.after in
     let y : w ≡ operand_text a.tree ++ (x.front ++ x.back) = a.whole ∙ ap (λ (i : List ℕ). operand_text a.tree ++ i) x.whole in
-    let q : operand_scanned (operand_text a.tree ++ (x.front ++ x.back)) ≡ operand.Got (seen_operand a.tree) n = sym (ap operand_scanned y) ∙ e ∙ sym (ap (λ (v : Tree). operand.Got v n) a.sees) in
+    let q : operand_scanned (operand_text a.tree ++ (x.front ++ x.back)) ≡ operand_got (seen_operand a.tree) n = sym (ap operand_scanned y) ∙ e ∙ sym (ap (λ (v : Tree). operand_got v n) a.sees) in
     subst (Claim k p s o) (sym y)
     (by_sign k ih a.tree n x.front x.back a.good q a.taken x.all x.stops p s o (eqb (get_or x.back 0 0) 44) refl (eqb (get_or x.back 0 0) 59) refl) m h
 

@@ -1,5 +1,5 @@
 -- The first register whose number is over its file: what the code finds is the tree's.
-use Rattle.std.specs.Prelude.{ℕ, suc, ◌+◌, ◌≤◌, ◌<◌, ◌≡◌, refl, List, [], ◌∷◌, ◌++◌, Bool, true, false, not, ◌&&◌, cond, eqb, length, get_or, drop}
+use Rattle.std.specs.Prelude.{ℕ, suc, ◌+◌, ◌≤◌, ◌<◌, ◌≡◌, refl, List, [], ◌∷◌, ◌++◌, Bool, true, false, not, ◌&&◌, cond, eqb, length, get_or, drop, Err, Ok, Result}
 use Rattle.std.proofs.Common.{arith, sym, ap, ap₂, ◌∙◌, subst, append_assoc, append-nil, length-append, drop_of_length-le, drop-cons, add-one, lt-ltb, le-ltb}
 use Rattle.signs.specs.Bytes.{is_blank, is_digit, is_name_byte, All, Some}
 use Rattle.signs.specs.Bytes.All.{none, more}
@@ -15,13 +15,11 @@ use Rattle.tree.specs.Seen.{place_in, seen_place}
 use Rattle.tree.specs.declared.Place.{Place}
 use Rattle.tree.specs.declared.Place.TheVariants.{Word, Half, Double, Pred}
 use Rattle.starts.specs.Without.{without, joined, class_without, number_without, dotted_without}
-use Rattle.scan.specs.Registers.{register_of}
+use Rattle.scan.specs.Registers.{register_got, register_of}
 use Rattle.scan.specs.RegisterLaws.{register_complete}
 use Rattle.scan.specs.RunLaws.{not_so, Stops}
 use Rattle.shape.specs.OperandLaws.{blank_either}
 use Rattle.shape.specs.GuardLaws.{blank_first}
-use Rattle.scan.specs.declared.Register as scanned
-use Rattle.scan.specs.declared.Register.TheVariants.{Got, Bad}
 
 abbrev pub in_file : Place → Bool
 in_file (Word w) = is_inside (rules.reg Words w.0)
@@ -29,9 +27,9 @@ in_file (Half h) = is_inside (rules.reg Halves h.0)
 in_file (Double d) = is_inside (rules.reg Doubles d.0)
 in_file (Pred p) = is_inside (rules.reg Preds p.0)
 
-abbrev pub is_over : scanned.Register → Bool
-is_over (Got p n) = not (in_file p)
-is_over (Bad q) = false
+abbrev pub is_over : Result (Place × ℕ) ℕ → Bool
+is_over (Ok (p, n)) = not (in_file p)
+is_over (Err q) = false
 
 unfoldable pub over_at : ℕ → List ℕ → ℕ
 over_at p [] = p
@@ -76,11 +74,11 @@ in_file_lem (rules.reg f n) h = placed_in_file f n ∙ lt-ltb n (count_of f) h
 not_in_file : (x : rules.Place) → file_size x ≤ number_of x → in_file (seen_place x) ≡ false
 not_in_file (rules.reg f n) h = placed_in_file f n ∙ le-ltb n (count_of f) h
 
-one : (x : rules.Place) (n p : ℕ) {tail : List ℕ} (w : List ℕ) → register_of (37 ∷ (tail ++ w)) ≡ Got (seen_place x) n → All plain tail
+one : (x : rules.Place) (n p : ℕ) {tail : List ℕ} (w : List ℕ) → register_of (37 ∷ (tail ++ w)) ≡ register_got (seen_place x) n → All plain tail
     → over_at p (37 ∷ (tail ++ w)) ≡ cond (not (in_file (seen_place x))) p (over_at (p + suc (length tail)) w)
 unfolding over_at
 one x n p {tail} w e h =
-    ap (λ (r : scanned.Register). cond (is_over r) p (over_at (suc p) (tail ++ w))) e
+    ap (λ (r : Result (Place × ℕ) ℕ). cond (is_over r) p (over_at (suc p) (tail ++ w))) e
     ∙ ap (cond (not (in_file (seen_place x))) p) (skip (suc p) w h ∙ ap (λ (k : ℕ). over_at k w) (omega arith))
 
 at_register : (x : rules.Place) (p : ℕ) (w : List ℕ) → GoodPlace x → Stops is_digit w → over_at p (register_text x ++ w) ≡ cond (not (in_file (seen_place x))) p (over_at (p + length (register_text x)) w)

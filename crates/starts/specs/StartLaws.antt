@@ -18,6 +18,7 @@ use Rattle.shape.specs.ListLaws.{comma_found, semicolon_found, divided_joined, d
 use Rattle.shape.specs.HeadLaws.{few_names}
 use Rattle.shape.specs.Complete.{line_joined}
 use Rattle.starts.specs.Without.{joined, class_without, number_without, dotted_without}
+use Rattle.starts.specs.declared.Next.TheVariants.{Operand, End}
 use Rattle.starts.specs.Starts.{guard_end, head_at, name_from, name_done, name_stops, name_goes, operands_at, not_bar, bar_at, next_by, next_of, next_at, operand_from, operand_done, operand_stops, operand_goes}
 
 -- ==== the head
@@ -96,7 +97,7 @@ name_start_is t k g m =
 
 -- an operand with a comma behind it, and one with the end behind it
 next_comma : (o : OperandTree) (b a r : List ℕ) → GoodOperand o → All is_blank b → All is_blank a → Stops is_blank r → length (operand_text o) + (length b + 1 + length a) ≤ most
-    → next_at (operand_text o ++ (b ++ (44 ∷ (a ++ r)))) ≡ record { more = true; taken = length (operand_text o) + (length b + 1 + length a) }
+    → next_at (operand_text o ++ (b ++ (44 ∷ (a ++ r)))) ≡ Operand (length (operand_text o) + (length b + 1 + length a))
 unfolding next_at next_of next_by
 next_comma o b a r g x y z m =
     rw (
@@ -107,7 +108,7 @@ next_comma o b a r g x y z m =
     )
 
 next_end : (o : OperandTree) (b r : List ℕ) → GoodOperand o → All is_blank b → length (operand_text o) + (length b + 1) ≤ most
-    → next_at (operand_text o ++ (b ++ (59 ∷ r))) ≡ record { more = false; taken = length (operand_text o) }
+    → next_at (operand_text o ++ (b ++ (59 ∷ r))) ≡ End (length (operand_text o))
 unfolding next_at next_of next_by
 next_end o b r g x m =
     rw (operand_complete o (b ++ (59 ∷ r)) g (edge_after 59 r (record { digit = refl; name = refl; bar = refl; dot = refl }) x) (omega arith), drop-append_seam (operand_text o) (b ++ (59 ∷ r)), semicolon_found b r x (omega arith))
@@ -116,7 +117,7 @@ pub operand_from_is : (p : ℕ) (o : OperandTree) (ds : List Divided) (b r : Lis
     → p + (length (operand_text o) + length (divided_text ds) + (length b + 1)) ≤ most → operand_from p k (operand_text o ++ (divided_text ds ++ (b ++ (59 ∷ r)))) ≡ p + operand_start o ds k
 operand_from_is p o ds b r zero g gs x m = operand_done p 0 (operand_text o ++ (divided_text ds ++ (b ++ (59 ∷ r)))) (omega arith) ∙ omega arith
 operand_from_is p o [] b r (suc k) g gs x m =
-    operand_stops p (suc k) (operand_text o ++ (b ++ (59 ∷ r))) (record { more = false; taken = length (operand_text o) }) (omega arith) (sym (next_end o b r g x (omega arith))) refl
+    operand_stops p (suc k) (length (operand_text o)) (operand_text o ++ (b ++ (59 ∷ r))) (omega arith) (next_end o b r g x (omega arith))
     ∙ sum_is p (length (operand_text o)) (omega arith)
 operand_from_is p o (d ∷ ds) b r (suc k) g (GoodOthers.more h hs) x m =
     let t : List ℕ = operand_text d.operand in
@@ -130,7 +131,7 @@ operand_from_is p o (d ∷ ds) b r (suc k) g (GoodOthers.more h hs) x m =
     let y : length v ≡ n = simp length-append (omega arith) in
     let i : suc k - 1 ≡ k = omega arith in
     ap (λ (j : List ℕ). operand_from p (suc k) (operand_text o ++ j)) (divided_joined d.before d.after t (divided_text ds) (b ++ (59 ∷ r)))
-    ∙ operand_goes p (suc k) (p + n) w l (record { more = true; taken = n }) (omega arith) (sym (next_comma o d.before d.after l g h.before h.after (operand_first d.operand (divided_text ds ++ (b ++ (59 ∷ r)))) (omega arith))) refl
+    ∙ operand_goes p (suc k) (p + n) n w l (omega arith) (next_comma o d.before d.after l g h.before h.after (operand_first d.operand (divided_text ds ++ (b ++ (59 ∷ r)))) (omega arith))
     (sym (ap (λ (j : List ℕ). drop n j) (sym u) ∙ drop_at v l n y)) (sym (sum_is p n (omega arith)))
     ∙ ap (λ (j : ℕ). operand_from (p + n) j l) i
     ∙ operand_from_is (p + n) d.operand ds b r k h.operand hs x (omega arith)

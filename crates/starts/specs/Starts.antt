@@ -1,23 +1,22 @@
 -- Where the pieces of a line start, as the code finds it. No one has to believe it: laws join it to the tree.
-use Rattle.std.specs.Prelude.{ℕ, zero, suc, ◌-◌, ◌≤◌, ◌<◌, ◌≡◌, refl, List, Bool, true, false, cond, eqb, get_or, drop}
-use Rattle.std.proofs.Common.{arith, sym, ap, ◌∙◌}
+use Rattle.std.specs.Prelude.{ℕ, zero, suc, ◌+◌, ◌-◌, ◌≤◌, ◌<◌, ◌≡◌, refl, List, Bool, true, false, cond, eqb, get_or, drop, Err, Ok, Result}
+use Rattle.std.proofs.Common.{arith, ap, ◌∙◌}
 use Rattle.signs.specs.Bytes.{is_blank, is_name_byte}
 use Rattle.scan.specs.Runs.{run_length, capped_sum}
 use Rattle.shape.specs.Guard.{guard_of}
-use Rattle.shape.specs.declared.GuardRead.{GuardRead}
-use Rattle.shape.specs.declared.GuardRead.TheVariants.{Got, Bad}
 use Rattle.shape.specs.Operand.{operand_scanned}
 use Rattle.shape.specs.Operands.{divider_of}
-use Rattle.shape.specs.declared.OperandRead.{OperandRead}
-use Rattle.shape.specs.declared.OperandRead.TheVariants as operand
 use Rattle.shape.specs.declared.Divider.{Divider}
-use Rattle.shape.specs.declared.Divider.TheVariants as divider
+use Rattle.shape.specs.declared.Divider.TheVariants.{Comma, Semicolon}
 use Rattle.starts.specs.Without.{without}
 use Rattle.starts.specs.declared.Next.{Next}
+use Rattle.starts.specs.declared.Next.TheVariants.{Operand, End}
+use Rattle.tree.specs.declared.Guarding.{Guarding}
+use Rattle.tree.specs.declared.Tree.{Tree}
 
-unfoldable pub guard_end : ℕ → GuardRead → ℕ
-guard_end n (Got g m) = capped_sum n m
-guard_end n (Bad q) = n
+unfoldable pub guard_end : ℕ → Result (Guarding × ℕ) ℕ → ℕ
+guard_end n (Ok (g, m)) = capped_sum n m
+guard_end n (Err q) = n
 
 unfoldable pub head_at : List ℕ → ℕ
 head_at s = let n = run_length is_blank s in guard_end n (guard_of (drop n s))
@@ -46,6 +45,23 @@ name_goes p (suc k) m b n q w v h e f g i j l =
     let z : suc k - 1 ≡ k = omega arith in
     rw (← e, ← f, g, ← i, ← j, ← l, z)
 
+-- ---- the loop, turn by turn: by the length of the name, with k turns left after this one
+
+abbrev pub name_by : ℕ → ℕ → List ℕ → ℕ → ℕ
+name_by p k w m = let n = capped_sum m 1 in cond (eqb (get_or w m 0) 46) (name_from (capped_sum p n) k (drop n w)) (capped_sum p m)
+
+pub name_turns : (p k i : ℕ) (w : List ℕ) → i < k → name_from p (k - i) w ≡ name_by p (k - (i + 1)) w (run_length is_name_byte w)
+unfolding name_from
+name_turns p k i w h =
+    let e : k - i ≡ suc (k - (i + 1)) = omega arith in
+    ap (λ (j : ℕ). name_from p j w) e
+
+pub name_ends : (p k i : ℕ) (w : List ℕ) → k ≤ i → name_from p (k - i) w ≡ p
+name_ends p k i w h = name_done p (k - i) w (omega arith)
+
+-- what name_start is proved by
+pub ruleset name_loop = (name_turns, name_ends)
+
 -- ==== operands
 
 unfoldable pub operands_at : List ℕ → ℕ
@@ -55,50 +71,73 @@ operands_at s =
     let n = name_from 0 160 w in
     capped_sum (capped_sum h n) (run_length is_blank (drop n w))
 
-unfoldable pub next_by : ℕ → Divider → Next
-next_by n (divider.Comma m) = record { more = true; taken = capped_sum n m }
-next_by n (divider.Semicolon m) = record { more = false; taken = n }
-next_by n (divider.Bad m) = record { more = false; taken = n }
+unfoldable pub next_by : ℕ → Result Divider ℕ → Next
+next_by n (Ok (Comma m)) = Operand (capped_sum n m)
+next_by n (Ok (Semicolon m)) = End n
+next_by n (Err q) = End n
 
-unfoldable pub next_of : OperandRead → List ℕ → Next
-next_of (operand.Got o n) w = next_by n (divider_of (drop n w))
-next_of (operand.Bad q) w = record { more = false; taken = 0 }
+unfoldable pub next_of : Result (Tree × ℕ) ℕ → List ℕ → Next
+next_of (Ok (o, n)) w = next_by n (divider_of (drop n w))
+next_of (Err q) w = End 0
 
 unfoldable pub next_at : List ℕ → Next
 next_at w = next_of (operand_scanned w) w
 
+-- whether another operand follows, and the bytes up to it or of the last one
+abbrev pub goes : Next → Bool
+goes (Operand n) = true
+goes (End n) = false
+
+abbrev pub taken : Next → ℕ
+taken (Operand n) = n
+taken (End n) = n
+
 -- the k-th operand from here on, after p bytes
 unfoldable pub operand_from : ℕ → ℕ → List ℕ → ℕ
 operand_from p zero w = p
-operand_from p (suc k) w = let n = next_at w in cond n.more (operand_from (capped_sum p n.taken) k (drop n.taken w)) (capped_sum p n.taken)
+operand_from p (suc k) w = let n = next_at w in cond (goes n) (operand_from (capped_sum p (taken n)) k (drop (taken n) w)) (capped_sum p (taken n))
 
 pub operand_done : (p k : ℕ) (w : List ℕ) → k ≤ 0 → operand_from p k w ≡ p
 unfolding operand_from
 operand_done p zero w h = refl
 operand_done p (suc k) w h = absurd (omega arith)
 
-by_next : (p k : ℕ) (w : List ℕ) → Next → ℕ
-by_next p k w n = cond n.more (operand_from (capped_sum p n.taken) k (drop n.taken w)) (capped_sum p n.taken)
+pub operand_stops : (p k n : ℕ) (w : List ℕ) → 0 < k → next_at w ≡ End n → operand_from p k w ≡ capped_sum p n
+unfolding operand_from
+operand_stops p zero n w h e = absurd (omega arith)
+operand_stops p (suc k) n w h e = rw e
 
-by_more : (p k : ℕ) (w : List ℕ) (m : Bool) (t : ℕ) → m ≡ true → by_next p k w (record { more = m; taken = t }) ≡ operand_from (capped_sum p t) k (drop t w)
-unfolding by_next
-by_more p k w m t e = rw e
-
-by_last : (p k : ℕ) (w : List ℕ) (m : Bool) (t : ℕ) → m ≡ false → by_next p k w (record { more = m; taken = t }) ≡ capped_sum p t
-unfolding by_next
-by_last p k w m t e = rw e
-
-pub operand_stops : (p k : ℕ) (w : List ℕ) (n : Next) → 0 < k → n ≡ next_at w → n.more ≡ false → operand_from p k w ≡ capped_sum p n.taken
-unfolding operand_from by_next
-operand_stops p zero w n h e f = absurd (omega arith)
-operand_stops p (suc k) w n h e f = ap (by_next p k w) (sym e) ∙ by_last p k w n.more n.taken f
-
-pub operand_goes : (p k q : ℕ) (w v : List ℕ) (n : Next) → 0 < k → n ≡ next_at w → n.more ≡ true → v ≡ drop n.taken w → q ≡ capped_sum p n.taken → operand_from p k w ≡ operand_from q (k - 1) v
-unfolding operand_from by_next
-operand_goes p zero q w v n h e f g i = absurd (omega arith)
-operand_goes p (suc k) q w v n h e f g i =
+pub operand_goes : (p k q n : ℕ) (w v : List ℕ) → 0 < k → next_at w ≡ Operand n → v ≡ drop n w → q ≡ capped_sum p n → operand_from p k w ≡ operand_from q (k - 1) v
+unfolding operand_from
+operand_goes p zero q n w v h e g i = absurd (omega arith)
+operand_goes p (suc k) q n w v h e g i =
     let z : suc k - 1 ≡ k = omega arith in
-    ap (by_next p k w) (sym e) ∙ by_more p k w n.more n.taken f ∙ rw (g, i, z)
+    rw (e, g, i, z)
+
+-- ---- the loop, turn by turn: by what follows, with k turns left after this one
+
+abbrev pub operand_by : ℕ → ℕ → List ℕ → Next → ℕ
+operand_by p k w (Operand n) = operand_from (capped_sum p n) k (drop n w)
+operand_by p k w (End n) = capped_sum p n
+
+one_turn : (p k : ℕ) (w : List ℕ) → operand_from p (suc k) w ≡ operand_by p k w (next_at w)
+unfolding operand_from
+one_turn p k w = go (next_at w)
+  where
+    go : (n : Next) → cond (goes n) (operand_from (capped_sum p (taken n)) k (drop (taken n) w)) (capped_sum p (taken n)) ≡ operand_by p k w n
+    go (Operand n) = refl
+    go (End n) = refl
+
+pub operand_turns : (p k i : ℕ) (w : List ℕ) → i < k → operand_from p (k - i) w ≡ operand_by p (k - (i + 1)) w (next_at w)
+operand_turns p k i w h =
+    let e : k - i ≡ suc (k - (i + 1)) = omega arith in
+    ap (λ (j : ℕ). operand_from p j w) e ∙ one_turn p (k - (i + 1)) w
+
+pub operand_ends : (p k i : ℕ) (w : List ℕ) → k ≤ i → operand_from p (k - i) w ≡ p
+operand_ends p k i w h = operand_done p (k - i) w (omega arith)
+
+-- what operand_start is proved by
+pub ruleset operand_loop = (operand_turns, operand_ends)
 
 -- ==== the second place of a pair
 

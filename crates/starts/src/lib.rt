@@ -3,46 +3,40 @@
 
 ghost use Rattle.std.specs.Prelude.{◌≡◌};
 ghost use Rattle.starts.specs.Over.{in_file, is_over, over_at};
-ghost use Rattle.starts.specs.Starts.{guard_end, head_at, name_from, operands_at, bar_at, next_by, next_of, next_at, operand_from};
+ghost use Rattle.starts.specs.Starts.{head_at, name_from, operands_at, bar_at, next_at, operand_from};
 
 use scan::{Class, Register, byte, further, read_register, rest, run_len};
-use shape::{Divider, GuardRead, OperandRead, read_divider, read_guard, read_operand};
+use shape::{Divider, read_divider, read_guard, read_operand};
 use tree::Place;
 
-fn guard_end(n: usize, g: GuardRead) -> usize
-    ensures { result ≡ guard_end n g }
-{
-    match g {
-        GuardRead::Got(_, m) => further(n, m),
-        GuardRead::Bad(_) => n,
-    }
-}
-
 // The start of the opcode.
+#[tactic(auto, unfolding(crate::specs::Starts::head_at, crate::specs::Starts::guard_end))]
 pub fn head_start(line: &[u8]) -> usize
     ensures { result ≡ head_at line.now }
 {
     let n = run_len(Class::Blank, line);
-    guard_end(n, read_guard(rest(line, n)))
+    match read_guard(rest(line, n)) {
+        Ok((_, m)) => further(n, m),
+        Err(_) => n,
+    }
 }
 
 // The start of the k-th name of the head at the front of s, or the end of the head.
+// Not one with operand_start, which is no plainer: the step would be a closure with a law. `for` counts turns only.
+#[tactic(auto, using(crate::specs::Starts::name_loop))]
 pub fn name_start(s: &[u8], k: usize) -> usize
     ensures { result ≡ name_from 0 k s.now }
 {
     let mut w = s;
-    let mut left = k;
     let mut place = 0;
-    while 0 < left {
+    for _turn in 0..k {
         let m = run_len(Class::Name, w);
         if byte(w, m) != b'.' {
             return further(place, m);
         }
         let step = further(m, 1);
-        let next = rest(w, step);
-        w = next;
+        w = rest(w, step);
         place = further(place, step);
-        left -= 1;
     }
     place
 }
@@ -51,6 +45,7 @@ pub fn name_start(s: &[u8], k: usize) -> usize
 const MANY: usize = 160;
 
 // The start of the first operand.
+#[tactic(auto, unfolding(crate::specs::Starts::operands_at))]
 pub fn operands_start(line: &[u8]) -> usize
     ensures { result ≡ operands_at line.now }
 {
@@ -61,67 +56,42 @@ pub fn operands_start(line: &[u8]) -> usize
     further(further(h, n), b)
 }
 
-// Whether another operand follows the one at the front, and the bytes up to it; or the bytes of the last one.
+// What follows the operand at the front: another one after so many bytes, or the end after so many.
 #[derive(Clone, Copy)]
-struct Next {
-    more: bool,
-    taken: usize,
+enum Next {
+    Operand(usize),
+    End(usize),
 }
 
-fn next_by(n: usize, d: Divider) -> Next
-    ensures { result ≡ next_by n d }
-{
-    match d {
-        Divider::Comma(m) => Next {
-            more: true,
-            taken: further(n, m),
-        },
-        Divider::Semicolon(_) => Next {
-            more: false,
-            taken: n,
-        },
-        Divider::Bad(_) => Next {
-            more: false,
-            taken: n,
-        },
-    }
-}
-
-fn next_of(o: OperandRead, w: &[u8]) -> Next
-    ensures { result ≡ next_of o w.now }
-{
-    match o {
-        OperandRead::Got(_, n) => next_by(n, read_divider(rest(w, n))),
-        OperandRead::Bad(_) => Next {
-            more: false,
-            taken: 0,
-        },
-    }
-}
-
+#[tactic(auto, unfolding(crate::specs::Starts::next_at, crate::specs::Starts::next_of, crate::specs::Starts::next_by))]
 fn next_at(w: &[u8]) -> Next
     ensures { result ≡ next_at w.now }
 {
-    next_of(read_operand(w), w)
+    let Ok((_, n)) = read_operand(w) else {
+        return Next::End(0);
+    };
+    match read_divider(rest(w, n)) {
+        Ok(Divider::Comma(m)) => Next::Operand(further(n, m)),
+        Ok(Divider::Semicolon(_)) | Err(_) => Next::End(n),
+    }
 }
 
 // The start of the k-th operand at the front of s, or the end of the last.
+// Not one with name_start: see there. `for` counts turns only.
+#[tactic(auto, using(crate::specs::Starts::operand_loop))]
 pub fn operand_start(s: &[u8], k: usize) -> usize
     ensures { result ≡ operand_from 0 k s.now }
 {
     let mut w = s;
-    let mut left = k;
     let mut place = 0;
-    while 0 < left {
-        let n = next_at(w);
-        let taken = n.taken;
-        if !n.more {
-            return further(place, taken);
+    for _turn in 0..k {
+        match next_at(w) {
+            Next::Operand(n) => {
+                w = rest(w, n);
+                place = further(place, n);
+            }
+            Next::End(n) => return further(place, n),
         }
-        let next = rest(w, taken);
-        w = next;
-        place = further(place, taken);
-        left -= 1;
     }
     place
 }
@@ -130,47 +100,34 @@ pub fn operand_start(s: &[u8], k: usize) -> usize
 pub fn second_start(line: &[u8]) -> usize
     ensures { result ≡ bar_at line.now }
 {
-    let mut i = 0;
-    while i < line.len() {
-        if line[i] == b'|' {
-            return further(i, 1);
-        }
-        i += 1;
-    }
-    further(i, 1)
+    further(line.iter().take_while(|b| **b != b'|').count(), 1)
 }
 
 fn in_file(p: Place) -> bool
     ensures { result ≡ in_file p }
 {
     match p {
-        Place::Word(w) => w.0 < record::WORDS,
-        Place::Half(h) => h.0 < record::HALVES,
-        Place::Double(d) => d.0 < record::DOUBLES,
-        Place::Pred(q) => q.0 < record::PREDS,
+        Place::Word(w) => record::in_file(w),
+        Place::Half(h) => record::in_file(h),
+        Place::Double(d) => record::in_file(d),
+        Place::Pred(q) => record::in_file(q),
     }
 }
 
 fn is_over(r: Register) -> bool
     ensures { result ≡ is_over r }
 {
-    match r {
-        Register::Got(p, _) => !in_file(p),
-        Register::Bad(_) => false,
-    }
+    matches!(r, Ok((p, _)) if !in_file(p))
 }
 
 // The first register of the line whose number is at or over its file's size.
 pub fn first_over(line: &[u8]) -> usize
     ensures { result ≡ over_at 0 line.now }
 {
-    let mut i = 0;
-    while i < line.len() {
-        let over = is_over(read_register(rest(line, i)));
-        if (line[i] == b'%') & over {
+    for (i, b) in line.iter().enumerate() {
+        if *b == b'%' && is_over(read_register(&line[i..])) {
             return i;
         }
-        i += 1;
     }
-    i
+    line.len()
 }

@@ -2,13 +2,11 @@
 // known of them is what a line may go on with.
 #![tactic(auto)]
 
-ghost use Rattle.std.specs.Prelude.{◌≡◌, cond};
-ghost use Rattle.viable.specs.States.{named, ends, follow, digits, register, in_head, in_list, step, is_wrong, shape_place_of};
-
-use scan::{is_blank, is_digit, is_name_byte};
+ghost use Rattle.std.specs.Prelude.{◌≡◌};
+ghost use Rattle.viable.specs.States.{ends, follow, digits, register, in_head, in_list, step, shape_place_of};
 
 // What a register is: a guard's, the first of an operand, or one that ends its operand.
-#[derive(Clone, Copy)]
+#[derive(Clone, Copy, PartialEq, Eq)]
 enum Role {
     Guard,
     First,
@@ -16,7 +14,7 @@ enum Role {
 }
 
 // How much of a register is read: nothing, `%`, `%r`, its file, one digit, two, all.
-#[derive(Clone, Copy)]
+#[derive(Clone, Copy, PartialEq, Eq)]
 enum Read {
     Nothing,
     Sign,
@@ -28,7 +26,8 @@ enum Read {
 }
 
 // What is read so far. Of an operand that has ended, blanks behind it among them, this is `Register(Last, Whole)`.
-#[derive(Clone, Copy)]
+// Not Option with None for Wrong: `step`, under law `shape_place_right`, has Wrong as one of its states.
+#[derive(Clone, Copy, PartialEq, Eq)]
 enum State {
     // What no line begins with.
     Wrong,
@@ -57,149 +56,110 @@ enum State {
     Register(Role, Read),
 }
 
-// Both states are at hand, and one is taken.
-fn pick(t: bool, a: State, b: State) -> State
-    ensures { result ≡ cond t a b }
-{
-    if t { a } else { b }
-}
-
-// A byte of a name.
-fn named(b: u8, then: State, other: State) -> State
-    ensures { result ≡ named b then other }
-{
-    pick(is_name_byte(b), then, other)
-}
-
 // After an operand.
+#[tactic(auto, unfolding(crate::specs::States::ends))]
 fn ends(b: u8) -> State
     ensures { result ≡ ends b }
 {
-    let sign = pick(
-        b == b',',
-        State::Operand,
-        pick(b == b';', State::End, State::Wrong),
-    );
-    pick(is_blank(b), State::Register(Role::Last, Read::Whole), sign)
+    match b {
+        b' ' | b'\t' => State::Register(Role::Last, Read::Whole),
+        b',' => State::Operand,
+        b';' => State::End,
+        _ => State::Wrong,
+    }
 }
 
 // After a register.
+#[tactic(auto, unfolding(crate::specs::States::follow))]
 fn follow(k: Role, b: u8) -> State
     ensures { result ≡ follow k b }
 {
-    match k {
-        Role::Guard => pick(is_blank(b), State::Blanks, State::Wrong),
-        Role::First => pick(b == b'|', State::Bar, pick(b == b'.', State::Part, ends(b))),
-        Role::Last => ends(b),
+    match (k, b) {
+        (Role::Guard, b' ' | b'\t') => State::Blanks,
+        (Role::Guard, _) => State::Wrong,
+        (Role::First, b'|') => State::Bar,
+        (Role::First, b'.') => State::Part,
+        (Role::First | Role::Last, _) => ends(b),
     }
 }
 
 // The first digit of a number.
+#[tactic(auto, unfolding(crate::specs::States::digits))]
 fn digits(k: Role, b: u8) -> State
     ensures { result ≡ digits k b }
 {
-    let other = pick(is_digit(b), State::Register(k, Read::One), State::Wrong);
-    pick(b == b'0', State::Register(k, Read::Whole), other)
+    match b {
+        b'0' => State::Register(k, Read::Whole),
+        b'1'..=b'9' => State::Register(k, Read::One),
+        _ => State::Wrong,
+    }
 }
 
 // Inside a register.
+#[tactic(auto, unfolding(crate::specs::States::register))]
 fn register(k: Role, d: Read, b: u8) -> State
     ensures { result ≡ register k d b }
 {
-    match d {
-        Read::Nothing => pick(b == b'%', State::Register(k, Read::Sign), State::Wrong),
-        Read::Sign => pick(
-            b == b'p',
-            State::Register(k, Read::File),
-            pick(b == b'r', State::Register(k, Read::Wide), State::Wrong),
-        ),
-        Read::Wide => pick(
-            b == b'd',
-            State::Register(k, Read::File),
-            pick(b == b's', State::Register(k, Read::File), digits(k, b)),
-        ),
-        Read::File => digits(k, b),
-        Read::One => pick(is_digit(b), State::Register(k, Read::Two), follow(k, b)),
-        Read::Two => pick(is_digit(b), State::Register(k, Read::Whole), follow(k, b)),
-        Read::Whole => follow(k, b),
+    match (d, b) {
+        (Read::Nothing, b'%') => State::Register(k, Read::Sign),
+        (Read::Sign, b'p') => State::Register(k, Read::File),
+        (Read::Sign, b'r') => State::Register(k, Read::Wide),
+        (Read::Wide, b'd' | b's') => State::Register(k, Read::File),
+        (Read::Wide | Read::File, _) => digits(k, b),
+        (Read::One, b'0'..=b'9') => State::Register(k, Read::Two),
+        (Read::Two, b'0'..=b'9') => State::Register(k, Read::Whole),
+        (Read::One | Read::Two | Read::Whole, _) => follow(k, b),
+        (Read::Nothing | Read::Sign, _) => State::Wrong,
     }
 }
 
 // After a byte of a name.
+#[tactic(auto, unfolding(crate::specs::States::named))]
 fn in_head(b: u8) -> State
     ensures { result ≡ in_head b }
 {
-    let gap = pick(is_blank(b), State::Operand, State::Wrong);
-    named(b, State::Name, pick(b == b'.', State::Dot, gap))
+    match b {
+        b'a'..=b'z' | b'0'..=b'9' => State::Name,
+        b'.' => State::Dot,
+        b' ' | b'\t' => State::Operand,
+        _ => State::Wrong,
+    }
 }
 
 // Where an operand begins.
 fn in_list(b: u8) -> State
     ensures { result ≡ in_list b }
 {
-    let place = pick(
-        b == b'_',
-        State::Nothing,
-        register(Role::First, Read::Nothing, b),
-    );
-    let sign = pick(b == b'!', State::Register(Role::Last, Read::Nothing), place);
-    pick(is_blank(b), State::Operand, sign)
-}
-
-// What is read with one byte more.
-fn step(s: State, b: u8) -> State
-    ensures { result ≡ step s b }
-{
-    match s {
-        State::Wrong => State::Wrong,
-        State::Start => pick(
-            is_blank(b),
-            State::Start,
-            pick(b == b'@', State::Guard, named(b, State::Name, State::Wrong)),
-        ),
-        State::Guard => pick(
-            b == b'!',
-            State::Register(Role::Guard, Read::Nothing),
-            register(Role::Guard, Read::Nothing, b),
-        ),
-        State::Blanks => pick(
-            is_blank(b),
-            State::Blanks,
-            named(b, State::Name, State::Wrong),
-        ),
-        State::Dot => named(b, State::Name, State::Wrong),
-        State::Name => in_head(b),
-        State::Operand => in_list(b),
-        State::Nothing => pick(b == b'|', State::Bar, State::Wrong),
-        State::Bar => pick(
-            b == b'_',
-            State::Register(Role::Last, Read::Whole),
-            register(Role::Last, Read::Nothing, b),
-        ),
-        State::Part => named(b, State::Selector, State::Wrong),
-        State::Selector => named(b, State::Selector, ends(b)),
-        State::End => pick(is_blank(b), State::End, State::Wrong),
-        State::Register(k, d) => register(k, d, b),
+    match b {
+        b' ' | b'\t' => State::Operand,
+        b'!' => State::Register(Role::Last, Read::Nothing),
+        b'_' => State::Nothing,
+        _ => register(Role::First, Read::Nothing, b),
     }
 }
 
-fn is_wrong(s: State) -> bool
-    ensures { result ≡ is_wrong s }
+// What is read with one byte more.
+#[tactic(auto, unfolding(crate::specs::States::step, crate::specs::States::named))]
+fn step(s: State, b: u8) -> State
+    ensures { result ≡ step s b }
 {
-    match s {
-        State::Wrong => true,
-        State::Start => false,
-        State::Guard => false,
-        State::Blanks => false,
-        State::Dot => false,
-        State::Name => false,
-        State::Operand => false,
-        State::Nothing => false,
-        State::Bar => false,
-        State::Part => false,
-        State::Selector => false,
-        State::End => false,
-        State::Register(_, _) => false,
+    match (s, b) {
+        (State::Start, b' ' | b'\t') => State::Start,
+        (State::Start, b'@') => State::Guard,
+        (State::Guard, b'!') => State::Register(Role::Guard, Read::Nothing),
+        (State::Guard, _) => register(Role::Guard, Read::Nothing, b),
+        (State::Blanks, b' ' | b'\t') => State::Blanks,
+        (State::Start | State::Blanks | State::Dot, b'a'..=b'z' | b'0'..=b'9') => State::Name,
+        (State::Name, _) => in_head(b),
+        (State::Operand, _) => in_list(b),
+        (State::Nothing, b'|') => State::Bar,
+        (State::Bar, b'_') => State::Register(Role::Last, Read::Whole),
+        (State::Bar, _) => register(Role::Last, Read::Nothing, b),
+        (State::Part | State::Selector, b'a'..=b'z' | b'0'..=b'9') => State::Selector,
+        (State::Selector, _) => ends(b),
+        (State::End, b' ' | b'\t') => State::End,
+        (State::Register(k, d), _) => register(k, d, b),
+        _ => State::Wrong,
     }
 }
 
@@ -208,13 +168,11 @@ pub fn shape_place(line: &[u8]) -> usize
     ensures { result ≡ shape_place_of line.now }
 {
     let mut s = State::Start;
-    let mut i = 0;
-    while i < line.len() {
-        s = step(s, line[i]);
-        if is_wrong(s) {
+    for (i, b) in line.iter().enumerate() {
+        s = step(s, *b);
+        if s == State::Wrong {
             return i;
         }
-        i += 1;
     }
-    i
+    line.len()
 }

@@ -1,10 +1,7 @@
-use Rattle.std.proofs.Common.{◌-◌, ◌≡◌, ◌≤◌}
+use Rattle.std.proofs.Common.{◌-◌, ◌≡◌}
 use Rattle.shape.specs.Turns.{most_turns}
-use Rattle.shape.specs.Operands.{operands_scanned, operand_turns, listed_by}
+use Rattle.shape.specs.Operands.{operands_scanned, operands_read, list_left}
 use Rattle.shape.proofs.read_operands.Given as goal
 
-abbrev pub invariant-loop-turn : goal.invariant-loop-turn
-invariant-loop-turn l = (l._turn ≤ most_turns) × (operands_scanned l.s ≡ operand_turns (most_turns - l._turn) l.w (listed_by l.t (record { n = l.n; at = l.at })))
-
-abbrev pub decreases-loop-turn : goal.decreases-loop-turn
-decreases-loop-turn l = most_turns - l._turn
+abbrev pub invariant-loop-n : goal.invariant-loop-n
+invariant-loop-n l = operands_read (operands_scanned l.s) ≡ list_left (most_turns - l.n) l.w l.place (record { n = l.n; at = l.at })
