@@ -1,7 +1,7 @@
 -- What the code tries tells whether some legal list under the head begins with the first operands: so where it stops is the place of refusal 5.
 use Prim.Native.Nat.{ℕ, zero, suc, ◌+◌, ◌-◌, ◌≤◌, ◌<◌}
 use Rattle.std.proofs.Common.{arith, ap₂, ◌∙◌, subst, take_at, le-ltb, ltb-true, ltb-false}
-use Rattle.std.specs.Prelude.{◌≡◌, ◌||◌, List, [], ◌∷◌, ◌++◌, map, eqb, leb, length, take}
+use Rattle.std.specs.Prelude.{◌≡◌, ◌||◌, List, [], ◌∷◌, ◌++◌, map, eqb, leb, length, take, Err, Ok, Result}
 use Rattle.std.proofs.Math.Path.{refl, sym, ap}
 use Rattle.std.proofs.Math.Bool.{Bool, true, false, cond}
 use Rattle.std.proofs.Math.Dec.{ltb}
@@ -37,8 +37,6 @@ use Rattle.heads.specs.Complete.{same_row, fit_blank, blank_names}
 use Rattle.fills.specs.Fills.{untaken, tree_at, filled_of}
 use Rattle.fills.specs.FillComplete.{fill_complete}
 use Rattle.fills.specs.FillSound.{fill_sound}
-use Rattle.fills.specs.declared.Filled.{Filled}
-use Rattle.fills.specs.declared.Filled.TheVariants.{Full, Wrong}
 use Rattle.fillplace.specs.Tries.{typed, is_full, is_filled, none, slot_of, entry, completed, tried, begins_filled, guess_of, operand_place_of}
 use Rattle.fillplace.specs.EndingLaws.{w, v, x_of, endings, Ends, operands_end, some_list}
 
@@ -213,8 +211,8 @@ module _ (head : List Name) (i : Instruction) (names : head ≡ head_names i) (e
   unfolding is_filled
   filled_right os g e = go (filled_of i (seen_operands os)) refl e
     where
-      go : (f : Filled) → filled_of i (seen_operands os) ≡ f → is_full f ≡ true → LegalOperands head os
-      go (Full j) x y =
+      go : (f : Result Instruction ℕ) → filled_of i (seen_operands os) ≡ f → is_full f ≡ true → LegalOperands head os
+      go (Ok j) x y =
           let z = fill_sound i j os empty g x in
           record {
             instruction = j;
@@ -222,7 +220,7 @@ module _ (head : List Name) (i : Instruction) (names : head ≡ head_names i) (e
             spells = z.0;
             fit = y;
           }
-      go (Wrong k) x y = not_so y
+      go (Err k) x y = not_so y
 
   filled_all : (os : List OperandTree) → LegalOperands head os → fill_test i os ≡ true
   unfolding is_filled

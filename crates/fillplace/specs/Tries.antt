@@ -1,5 +1,5 @@
 -- How far operands begin as a legal list does, as the code tries it. No one has to believe it: laws join it to document 01.
-use Rattle.std.specs.Prelude.{ℕ, ◌+◌, ◌-◌, [], ◌∷◌, ◌≡◌, Bool, true, false, ◌||◌, cond, eqb, ltb}
+use Rattle.std.specs.Prelude.{ℕ, ◌+◌, ◌-◌, [], ◌∷◌, ◌≡◌, Bool, true, false, ◌||◌, cond, eqb, ltb, Err, Ok, Result}
 use Rattle.record.specs.Operands.{instruction_operands_fit}
 use Rattle.record.specs.Registers.{operand_place}
 use Rattle.record.specs.declared.DataType.{DataType}
@@ -18,15 +18,13 @@ use Rattle.tree.specs.declared.Tree.TheVariants.{Pair, Bare}
 use Rattle.tree.specs.declared.Operands.{Operands}
 use Rattle.tree.specs.declared.Slot.{Slot}
 use Rattle.fills.specs.Fills.{tree_at, filled_of}
-use Rattle.fills.specs.declared.Filled.{Filled}
-use Rattle.fills.specs.declared.Filled.TheVariants.{Full, Wrong}
 
 abbrev pub fits : Instruction → Bool
 fits i = instruction_operands_fit i
 
-abbrev pub is_full : Filled → Bool
-is_full (Full i) = fits i
-is_full (Wrong k) = false
+abbrev pub is_full : Result Instruction ℕ → Bool
+is_full (Ok i) = fits i
+is_full (Err k) = false
 
 unfoldable pub is_filled : Instruction → Operands → Bool
 is_filled i o = is_full (filled_of i o)
@@ -93,19 +91,19 @@ begins_filled i o k =
     (t 0 u u u || (t 1 x u u || (t 2 x x u || (t 1 p u u || (t 2 x p u || (t 3 x x p || (t 1 w u u || (t 2 x w u || t 3 x x w))))))))
 
 -- where the reader stopped; if it did not, the first operand
-unfoldable pub guess_of : Filled → ℕ
-guess_of (Full i) = 0
-guess_of (Wrong k) = k
+unfoldable pub guess_of : Result Instruction ℕ → ℕ
+guess_of (Ok i) = 0
+guess_of (Err k) = k
 
 unfoldable pub operand_place_of : Instruction → Operands → ℕ
 operand_place_of i o =
     let k = guess_of (filled_of i o) in
     cond (turns_at (begins_filled i o) o.n k) k (searched (begins_filled i o) 0 o.n)
 
-pub operand_guessed : (i : Instruction) (o : Operands) (f : Filled) (k : ℕ) → f ≡ filled_of i o → k ≡ guess_of f → turns_at (begins_filled i o) o.n k ≡ true → k ≡ operand_place_of i o
+pub operand_guessed : (i : Instruction) (o : Operands) (f : Result Instruction ℕ) (k : ℕ) → f ≡ filled_of i o → k ≡ guess_of f → turns_at (begins_filled i o) o.n k ≡ true → k ≡ operand_place_of i o
 unfolding operand_place_of
 operand_guessed i o f k r e t = rw (← r, ← e, t)
 
-pub operand_searched : (i : Instruction) (o : Operands) (f : Filled) (k : ℕ) → f ≡ filled_of i o → k ≡ guess_of f → turns_at (begins_filled i o) o.n k ≡ false → searched (begins_filled i o) 0 o.n ≡ operand_place_of i o
+pub operand_searched : (i : Instruction) (o : Operands) (f : Result Instruction ℕ) (k : ℕ) → f ≡ filled_of i o → k ≡ guess_of f → turns_at (begins_filled i o) o.n k ≡ false → searched (begins_filled i o) 0 o.n ≡ operand_place_of i o
 unfolding operand_place_of
 operand_searched i o f k r e t = rw (← r, ← e, t)

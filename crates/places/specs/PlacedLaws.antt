@@ -1,5 +1,5 @@
 -- The code's place of each refusal is the one that `Placed` gives it, and no other. Assumes nothing.
-use Rattle.std.specs.Prelude.{ℕ, ◌+◌, ◌≤◌, ◌≡◌, Bool, true, false, length, drop}
+use Rattle.std.specs.Prelude.{ℕ, ◌+◌, ◌≤◌, ◌≡◌, Bool, true, false, length, drop, Result, Ok}
 use Rattle.std.proofs.Common.{arith, ap₂, ◌∙◌, eqb-true}
 use Rattle.std.proofs.Math.Path.{refl, sym, ap, subst}
 use mathlib.Core.List.{List, ◌∷◌, ◌++◌, map}
@@ -30,11 +30,11 @@ use Rattle.tree.specs.Seen.{seen, seen_guard, seen_head, seen_operands}
 use Rattle.tree.specs.Blank.{blank}
 use Rattle.scan.specs.Runs.{run_length, capped_sum}
 use Rattle.scan.specs.RunLaws.{sum_is}
-use Rattle.shape.specs.Line.{shape_of}
+use Rattle.shape.specs.Line.{parts_of, shape_of}
 use Rattle.shape.specs.Complete.{shape_complete}
 use Rattle.heads.specs.Rows.{row_of}
 use Rattle.heads.specs.Complete.{row_complete, fit_blank, blank_names}
-use Rattle.heads.specs.declared.Found.{Found}
+use Rattle.heads.specs.declared.HeadError.{HeadError}
 use Rattle.fills.specs.FillOne.{blank_twice}
 use Rattle.viable.specs.States.{shape_place_of}
 use Rattle.viable.specs.PlaceLaws.{shape_place_right}
@@ -100,8 +100,8 @@ module _ (l : List ℕ) (short : length l ≤ line_limit) (t : LineTree) (shaped
   operands_good : GoodOperands (operands_of t)
   operands_good = operand-more good.first (good_operands t.others good.others)
 
-  is_seen : (shape_of l).parts ≡ seen t
-  is_seen = ap (λ (k : List ℕ). (shape_of k).parts) (sym shaped.text) ∙ (shape_complete t good within).1
+  is_seen : (parts_of (shape_of l)) ≡ seen t
+  is_seen = ap (λ (k : List ℕ). (parts_of (shape_of k))) (sym shaped.text) ∙ (shape_complete t good within).1
 
   -- ---- each piece starts where the code says
 
@@ -137,8 +137,8 @@ module _ (l : List ℕ) (short : length l ≤ line_limit) (t : LineTree) (shaped
   operand_right : (i : Instruction) → Row (names_of t) i → FirstWrong (LegalOperands (names_of t)) (operands_of t) (operand_index_of (seen_head (names_of t)) (seen_operands (operands_of t)))
   unfolding operand_index_of
   operand_right i r =
-      let e : row_of (seen_head (names_of t)) ≡ Found.Row (blank i) = ap (λ (ns : List Name). row_of (seen_head ns)) r.names ∙ row_complete i in
-      subst (λ (f : Found). FirstWrong (LegalOperands (names_of t)) (operands_of t) (operand_index_by f (seen_operands (operands_of t)))) (sym e)
+      let e : row_of (seen_head (names_of t)) ≡ Ok (blank i) = ap (λ (ns : List Name). row_of (seen_head ns)) r.names ∙ row_complete i in
+      subst (λ (f : Result Instruction HeadError). FirstWrong (LegalOperands (names_of t)) (operands_of t) (operand_index_by f (seen_operands (operands_of t)))) (sym e)
       (operand_place_right (names_of t) (blank i) (r.names ∙ sym (blank_names i)) (blank_twice i) (fit_blank i ∙ r.fit) (operands_of t) operands_good)
 
   -- ---- what the code says of 4 and 5, by the tree

@@ -3,23 +3,19 @@
 
 ghost use Rattle.std.specs.Prelude.{◌≡◌};
 ghost use Rattle.places.specs.Mirror.{pred_is, guard_good, modifier_place_of, operand_index_by, operand_index_of, legal_place_of, guard_place_of, parts_place_of, place_of};
-ghost use Rattle.shape.specs.Line.{shape_of};
+ghost use Rattle.shape.specs.Line.{no_parts, parts_of, shape_of};
 
-use heads::Found;
+use heads::HeadError;
+use record::Instruction;
 use scan::{Class, further, rest, run_len};
-use tree::{Guarding, Head, Operands, Parts, Place};
+use tree::{Guarding, Head, Operands, Parts, Place, Slot, Spot, Tree};
 
 // ---- the guard is a predicate
 
 fn is_pred(p: Place) -> bool
     ensures { result ≡ pred_is p }
 {
-    match p {
-        Place::Word(_) => false,
-        Place::Half(_) => false,
-        Place::Double(_) => false,
-        Place::Pred(_) => true,
-    }
+    matches!(p, Place::Pred(_))
 }
 
 pub fn guard_good(g: Guarding) -> bool
@@ -43,13 +39,12 @@ fn modifier_place(line: &[u8], head: Head) -> usize
 
 // ---- 5
 
-fn operand_index_by(f: Found, operands: Operands) -> usize
+fn operand_index_by(f: Result<Instruction, HeadError>, operands: Operands) -> usize
     ensures { result ≡ operand_index_by f operands }
 {
     match f {
-        Found::Row(i) => fillplace::operand_place(i, operands),
-        Found::NoOpcode => 0,
-        Found::Wrong(_) => 0,
+        Ok(i) => fillplace::operand_place(i, operands),
+        Err(_) => 0,
     }
 }
 
@@ -80,6 +75,7 @@ fn guarded_place(line: &[u8], g: Guarding, head: Head, operands: Operands) -> us
 // ---- every refusal
 
 // Of 2 to 7, the numbers of the refusals that carry a place; 5 is what is left.
+// Numbers, as `place` and `parts_place` take every n: `place_of n` says so, and a Refusal would ask more of callers.
 const NO_SHAPE: u8 = 2;
 
 const NO_OPCODE: u8 = 3;
@@ -91,6 +87,7 @@ const OUTSIDE: u8 = 6;
 const SAME_PAIR: u8 = 7;
 
 // 4 and 5 are asked of the names and of the operands.
+// n is a number: see NO_SHAPE.
 fn parts_place(n: u8, line: &[u8], x: Parts) -> usize
     ensures { result ≡ parts_place_of n line.now x }
 {
@@ -103,15 +100,31 @@ fn parts_place(n: u8, line: &[u8], x: Parts) -> usize
     guarded_place(line, g, head, operands)
 }
 
-fn shaped_place(n: u8, line: &[u8]) -> usize
-    ensures { result ≡ parts_place_of n line.now (shape_of line.now).parts }
+// What counts as the parts of a line that has not the shape: `place` answers for it too.
+fn no_parts() -> Parts
+    ensures { result ≡ no_parts }
 {
-    let scanned = shape::shape(line);
-    let parts = scanned.parts;
-    parts_place(n, line, parts)
+    let spare = Slot {
+        tree: Tree::Pair(Spot::Nothing, Spot::Nothing),
+    };
+    Parts {
+        guard: Guarding::Unguarded,
+        head: Head { n: 0, at: [0; 8] },
+        operands: Operands {
+            n: 0,
+            at: [spare; 5],
+        },
+    }
+}
+
+fn shaped_place(n: u8, line: &[u8]) -> usize
+    ensures { result ≡ parts_place_of n line.now (parts_of (shape_of line.now)) }
+{
+    parts_place(n, line, shape::shape(line).unwrap_or(no_parts()))
 }
 
 // The place of refusal n of a line that gets it; of another line it says nothing.
+// n is a number: see NO_SHAPE.
 pub fn place(n: u8, line: &[u8]) -> usize
     ensures { result ≡ place_of n line.now }
 {

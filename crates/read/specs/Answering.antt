@@ -1,6 +1,6 @@
 -- Every line gets the answer that the rules give it, and no other: the first refusal in the documents' order that applies, or its record. Assumes
 -- nothing.
-use Rattle.std.specs.Prelude.{ℕ, ◌≤◌, ◌<◌, ◌≡◌, refl, Bool, true, false, ◌||◌, cond, List, [], ◌∷◌, length, eqb, ltb}
+use Rattle.std.specs.Prelude.{ℕ, ◌≤◌, ◌<◌, ◌≡◌, refl, Bool, true, false, ◌||◌, cond, List, [], ◌∷◌, length, eqb, ltb, Ok, Err}
 use Rattle.std.proofs.Common.{arith, sym, ap, ap₂, subst, ◌∙◌, eqb-true, ltb-true, ltb-false}
 use Rattle.record.specs.Refusals.{numbers_in_range, pair_apart, Legal}
 use Rattle.record.specs.declared.Record.{Record}
@@ -17,15 +17,14 @@ use Rattle.heads.specs.Sound.{row_listed}
 use Rattle.read.specs.Refuses.{Refuses, over_160, no_shape, no_opcode, no_row, no_fit, out_of_file, same_pair, old_target, same_part, Decides, decides_read, decides_refused}
 use Rattle.places.specs.Mirror.{place_of}
 use Rattle.places.specs.PlacedLaws.{placed_2, placed_3, placed_4, placed_5, placed_6, placed_7, placed_only}
-use Rattle.read.specs.declared.Verdict.{Verdict}
-use Rattle.read.specs.Mirror.{verdict_of, no_place, refused_by, answer_by, read_of}
+use Rattle.read.specs.Mirror.{Verdict, verdict_of, no_place, refused_by, answer_by, read_of}
 use Rattle.read.specs.Laws.{decides, decides_unique, one_record, spelled_by_all}
 
 -- ==== the reader's refusals, said of the line, the target and the mode alone
 
 -- one refusal at most
 one_refusal : (target : Target) (mode : Mode) (l : List ℕ) (n k : ℕ) → Refuses target mode l n → Refuses target mode l k → n ≡ k
-one_refusal target mode l n k r q = let e : Verdict.Numbered n ≡ Verdict.Numbered k = decides_unique target mode l (Verdict.Numbered n) (Verdict.Numbered k) (decides_refused r) (decides_refused q) in cc
+one_refusal target mode l n k r q = let e : Err n ≡ Err k = decides_unique target mode l (Err n) (Err k) (decides_refused r) (decides_refused q) in cc
 
 applies : (target : Target) (mode : Mode) (l : List ℕ) (n : ℕ) → Refuses target mode l n → Applies target mode l n
 applies target mode l n (over_160 h) = too_long h
@@ -194,8 +193,8 @@ refused_answers target mode l n r = go (no_place n) refl
     go false e = refuses_at (first_of target mode l n r) (placed target mode l n r e)
 
 answered : (target : Target) (mode : Mode) (l : List ℕ) (v : Verdict) → Decides target mode l v → Answers target mode l (answer_by v l)
-answered target mode l (Verdict.Accepted m) (decides_read k r h) = accepts m r h
-answered target mode l (Verdict.Numbered n) (decides_refused r) = refused_answers target mode l n r
+answered target mode l (Ok m) (decides_read k r h) = accepts m r h
+answered target mode l (Err n) (decides_refused r) = refused_answers target mode l n r
 
 pub answers_by : (target : Target) (mode : Mode) (l : List ℕ) (v : Verdict) → v ≡ verdict_of target mode l → Answers target mode l (answer_by v l)
 answers_by target mode l v e = answered target mode l v (subst (Decides target mode l) (sym e) (decides target mode l))
@@ -241,8 +240,8 @@ pub of_first : (target : Target) (mode : Mode) (l : List ℕ) (n : ℕ) → Firs
 of_first target mode l n f = go (verdict_of target mode l) (decides target mode l)
   where
     go : (v : Verdict) → Decides target mode l v → Refuses target mode l n
-    go (Verdict.Accepted m) (decides_read k r h) = absurd (accepted_none target mode l m r h n (first_applies target mode l n reading_order f))
-    go (Verdict.Numbered k) (decides_refused r) = subst (Refuses target mode l) (first_one target mode l k n reading_order (first_of target mode l k r) f) r
+    go (Ok m) (decides_read k r h) = absurd (accepted_none target mode l m r h n (first_applies target mode l n reading_order f))
+    go (Err k) (decides_refused r) = subst (Refuses target mode l) (first_one target mode l k n reading_order (first_of target mode l k r) f) r
 
 -- each refusal but 1, 12 and 15 has a place
 pub placed_some : (target : Target) (mode : Mode) (l : List ℕ) (n : ℕ) → FirstOf target mode l n reading_order → (Listed n placeless → ⊥) → (p : ℕ) × Placed l n p

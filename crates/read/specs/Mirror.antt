@@ -1,5 +1,5 @@
 -- What the reader computes, stage by stage, on lists. No one has to believe it: specs/Laws.antt joins it to the grammar.
-use Rattle.std.specs.Prelude.{ℕ, zero, suc, Bool, true, false, not, ◌&&◌, ◌||◌, cond, List, length, eqb, ltb}
+use Rattle.std.specs.Prelude.{ℕ, zero, suc, Bool, true, false, not, ◌&&◌, ◌||◌, cond, List, length, eqb, ltb, Err, Ok, Result, is_ok}
 use Rattle.record.specs.Modifiers.{modifiers_fit}
 use Rattle.record.specs.Operands.{operands_fit}
 use Rattle.record.specs.Refusals.{numbers_in_range, pair_apart}
@@ -20,44 +20,44 @@ use Rattle.tree.specs.declared.Place.{Place}
 use Rattle.tree.specs.declared.Guarding.{Guarding}
 use Rattle.tree.specs.declared.Guarding.TheVariants.{Unguarded, Guarded}
 use Rattle.tree.specs.declared.Parts.{Parts}
-use Rattle.shape.specs.Line.{shape_of}
+use Rattle.shape.specs.Line.{parts_of, shape_of}
 use Rattle.heads.specs.Rows.{row_of}
-use Rattle.heads.specs.declared.Found.{Found}
+use Rattle.heads.specs.declared.HeadError.{HeadError}
 use Rattle.fills.specs.Fills.{filled_of}
-use Rattle.fills.specs.declared.Filled.{Filled}
 use Rattle.refusals.specs.Order.{first_reading}
 use Rattle.places.specs.Mirror.{guard_good, place_of}
-use Rattle.read.specs.declared.Verdict.{Verdict}
+use Rattle.refusals.specs.declared.Refusal.{Refusal}
+use Rattle.refusals.specs.Numbers.{number_of}
 
 -- ==== what the head gave
 
-abbrev pub opcode_is : Found → Bool
-opcode_is (Found.Row i) = true
-opcode_is Found.NoOpcode = false
-opcode_is (Found.Wrong k) = true
+abbrev pub opcode_is : Result Instruction HeadError → Bool
+opcode_is (Ok i) = true
+opcode_is (Err HeadError.NoOpcode) = false
+opcode_is (Err (HeadError.Wrong k)) = true
 
-abbrev pub row_is : Found → Bool
-row_is (Found.Row i) = true
-row_is Found.NoOpcode = false
-row_is (Found.Wrong k) = false
+abbrev pub row_is : Result Instruction HeadError → Bool
+row_is (Ok i) = true
+row_is (Err HeadError.NoOpcode) = false
+row_is (Err (HeadError.Wrong k)) = false
 
 abbrev pub no_instruction : Instruction
 no_instruction = Selp (blank_choice B32) no_pred
 
-abbrev pub instruction_in : Found → Instruction
-instruction_in (Found.Row i) = i
-instruction_in Found.NoOpcode = no_instruction
-instruction_in (Found.Wrong k) = no_instruction
+abbrev pub instruction_in : Result Instruction HeadError → Instruction
+instruction_in (Ok i) = i
+instruction_in (Err HeadError.NoOpcode) = no_instruction
+instruction_in (Err (HeadError.Wrong k)) = no_instruction
 
 -- ==== what the operands gave
 
-abbrev pub full_is : Filled → Bool
-full_is (Filled.Full i) = true
-full_is (Filled.Wrong k) = false
+abbrev pub full_is : Result Instruction ℕ → Bool
+full_is (Ok i) = true
+full_is (Err k) = false
 
-abbrev pub filled_in : Filled → Instruction
-filled_in (Filled.Full i) = i
-filled_in (Filled.Wrong k) = no_instruction
+abbrev pub filled_in : Result Instruction ℕ → Instruction
+filled_in (Ok i) = i
+filled_in (Err k) = no_instruction
 
 -- ==== the guard
 
@@ -86,7 +86,7 @@ pub record Candidate : Type 0 where
   pub row : Bool
   pub fit : Bool
 
-abbrev pub candidate_by : Guarding → Found → Filled → Candidate
+abbrev pub candidate_by : Guarding → Result Instruction HeadError → Result Instruction ℕ → Candidate
 candidate_by g found filled =
     record {
       spelled = record_of (guard_in g) (filled_in filled);
@@ -106,19 +106,23 @@ abbrev pub refusal_of : Target → Mode → Bool → Bool → Candidate → ℕ
 refusal_of target mode tooLong good c =
     first_reading tooLong (not good) (not c.opcode) (not c.row) (not c.fit) (not (numbers_in_range c.spelled)) (not (pair_apart c.spelled)) (not (allows target c.spelled)) (not (passes mode c.spelled))
 
--- a line that stops before there is a record
-abbrev pub stopped_by : Bool → Bool → Bool → Bool → Verdict
-stopped_by tooLong no_shape noOpcode no_row = Verdict.Numbered (first_reading tooLong no_shape noOpcode no_row true true true true true)
+-- a record, or the number of the refusal
+abbrev pub Verdict : Type 0
+Verdict = Result Record ℕ
+
+abbrev pub numbered : Result Record Refusal → Verdict
+numbered (Ok m) = Ok m
+numbered (Err r) = Err (number_of r)
 
 abbrev pub decided : ℕ → Record → Verdict
-decided zero m = Verdict.Accepted m
-decided (suc n) m = Verdict.Numbered (suc n)
+decided zero m = Ok m
+decided (suc n) m = Err (suc n)
 
 abbrev pub decided_by : Target → Mode → Bool → Bool → Candidate → Verdict
 decided_by target mode tooLong good c = decided (refusal_of target mode tooLong good c) c.spelled
 
 unfoldable pub verdict_of : Target → Mode → List ℕ → Verdict
-verdict_of target mode l = decided_by target mode (ltb line_limit (length l)) (shape_of l).good (candidate_of (shape_of l).parts)
+verdict_of target mode l = decided_by target mode (ltb line_limit (length l)) (is_ok (shape_of l)) (candidate_of (parts_of (shape_of l)))
 
 -- ==== the answer: 1, 12 and 15 carry no place
 
@@ -129,8 +133,8 @@ unfoldable pub refused_by : ℕ → List ℕ → Answer
 refused_by n l = cond (no_place n) (refused n) (refused_at n (place_of n l))
 
 abbrev pub answer_by : Verdict → List ℕ → Answer
-answer_by (Verdict.Accepted m) l = read m
-answer_by (Verdict.Numbered n) l = refused_by n l
+answer_by (Ok m) l = read m
+answer_by (Err n) l = refused_by n l
 
 unfoldable pub read_of : Target → Mode → List ℕ → Answer
 read_of target mode l = answer_by (verdict_of target mode l) l

@@ -1,6 +1,6 @@
 -- What the reader finds of a line, places aside: each refusal stands on what the stages before it found. No one has to believe it: Answering.antt joins it to
 -- `Answers`, which says each refusal of the line, the target and the mode alone.
-use Rattle.std.specs.Prelude.{ℕ, ◌≤◌, ◌<◌, ◌≡◌, true, false, List, length}
+use Rattle.std.specs.Prelude.{ℕ, ◌≤◌, ◌<◌, ◌≡◌, true, false, List, length, Ok, Err}
 use Rattle.record.specs.Refusals.{numbers_in_range, pair_apart, Legal}
 use Rattle.record.specs.declared.Instruction.{Instruction}
 use Rattle.record.specs.declared.Record.{Record}
@@ -11,7 +11,7 @@ use Rattle.rules.specs.Strict.{passes, Readable}
 use Rattle.rules.specs.Grammar.{LineTree, names_of, Shaped}
 use Rattle.rules.specs.Reading.{line_limit, opcodes, Row, Fits, Relates}
 use Rattle.signs.specs.Lists.{Listed}
-use Rattle.read.specs.declared.Verdict.{Verdict}
+use Rattle.read.specs.Mirror.{Verdict}
 
 pub data Refuses (target : Target) (mode : Mode) (l : List ℕ) : ℕ → Type 0 where
   over_160 : line_limit < length l → Refuses target mode l 1
@@ -25,5 +25,5 @@ pub data Refuses (target : Target) (mode : Mode) (l : List ℕ) : ℕ → Type 0
   same_part : (m : Record) → Relates l m → Allowed target m → passes mode m ≡ false → Refuses target mode l 15
 
 pub data Decides (target : Target) (mode : Mode) (l : List ℕ) : Verdict → Type 0 where
-  decides_read : (m : Record) → Relates l m → Readable target mode m → Decides target mode l (Verdict.Accepted m)
-  decides_refused : {n : ℕ} → Refuses target mode l n → Decides target mode l (Verdict.Numbered n)
+  decides_read : (m : Record) → Relates l m → Readable target mode m → Decides target mode l (Ok m)
+  decides_refused : {n : ℕ} → Refuses target mode l n → Decides target mode l (Err n)

@@ -2,33 +2,25 @@
 // allows it and the mode passes it. The first refusal that applies decides; then its place is looked for.
 #![tactic(auto)]
 
-ghost use Rattle.std.specs.Prelude.{◌≡◌, true, false};
+ghost use Rattle.std.specs.Prelude.{◌≡◌, true, false, Ok};
 ghost use Rattle.record.specs.Modifiers.{instruction_modifiers_fit};
 ghost use Rattle.rules.specs.Reading.{Answers};
 ghost use Rattle.fills.specs.Fills.{filled_of};
-ghost use Rattle.heads.specs.declared.Found.TheVariants as found;
-ghost use Rattle.read.specs.Paper.{answer_of};
-ghost use Rattle.read.specs.Mirror.{pred_in, guard_at, guard_in, record_of, candidate_by, candidate_of, fit_by, refusal_of, stopped_by, decided_by, verdict_of, refused_by};
+ghost use Rattle.read.specs.Paper.{refused_answer, answer_of};
+ghost use Rattle.refusals.specs.Numbers.{number_of, first_number};
+ghost use Rattle.read.specs.Mirror.{pred_in, guard_at, guard_in, record_of, candidate_by, candidate_of, fit_by, refusal_of, numbered, decided_by, verdict_of, no_place, refused_by};
 ghost use Rattle.places.specs.Mirror.{guard_good};
 
-use fills::Filled;
-use heads::Found;
+use heads::HeadError;
 use record::{Condition, Guard, Instruction, Mode, Pred, Record, Target};
+use refusals::Refusal;
 use tree::{Guarding, Operands, Parts, Place};
 
-// The record, or the documents' number of the refusal and, if it carries one, its place: the bytes of the line before it.
+// Why a line is refused, and, if the refusal carries one, its place: the bytes of the line before it.
 #[derive(Clone, Copy)]
-pub enum Reading {
-    Record(Record),
-    Refused(u8),
-    RefusedAt(u8, usize),
-}
-
-// The same, places aside.
-#[derive(Clone, Copy)]
-enum Verdict {
-    Accepted(Record),
-    Numbered(u8),
+pub struct Refused {
+    pub refusal: Refusal,
+    pub place: Option<usize>,
 }
 
 // A line has at most so many bytes.
@@ -36,14 +28,13 @@ const LINE_LIMIT: usize = 160;
 
 // ---- the guard is a predicate
 
+// Not `From`: both types are of other crates. The same holds of guard_in.
 fn pred_in(p: Place) -> Pred
     ensures { result ≡ pred_in p }
 {
     match p {
-        Place::Word(_) => Pred(0),
-        Place::Half(_) => Pred(0),
-        Place::Double(_) => Pred(0),
         Place::Pred(q) => q,
+        Place::Word(_) | Place::Half(_) | Place::Double(_) => Pred(0),
     }
 }
 
@@ -70,15 +61,12 @@ fn guard_in(g: Guarding) -> Guard
 fn record_of(guard: Guard, instruction: Instruction) -> Record
     ensures { result ≡ record_of guard instruction }
 {
-    Record {
-        guard: guard,
-        instruction: instruction,
-    }
+    Record { guard, instruction }
 }
 
-// Refusals 5, 6, 7, 12 and 15, 0 for none.
-fn last_refusal(target: Target, mode: Mode, good: bool, r: Record) -> u8
-    ensures { result ≡ refusal_of target mode false true (fit_by good r) }
+// The first of refusals 5, 6, 7, 12 and 15 that applies.
+fn last_refusal(target: Target, mode: Mode, good: bool, r: Record) -> Option<Refusal>
+    ensures { first_number result ≡ refusal_of target mode false true (fit_by good r) }
 {
     let fit = good & fits::operands_fit(r);
     let inside = legal::numbers_in_range(r);
@@ -90,102 +78,100 @@ fn last_refusal(target: Target, mode: Mode, good: bool, r: Record) -> u8
     )
 }
 
-// Before there is a record.
-fn stopped(too_long: bool, no_shape: bool, no_opcode: bool, no_row: bool) -> Verdict
-    ensures { result ≡ stopped_by too_long no_shape no_opcode no_row }
-{
-    Verdict::Numbered(refusals::reading(
-        too_long, no_shape, no_opcode, no_row, true, true, true, true, true,
-    ))
-}
-
-fn from_filled(target: Target, mode: Mode, g: Guarding, i: Instruction) -> Verdict
-    ensures { result ≡ decided_by target mode false true (fit_by (guard_good g) (record_of (guard_in g) i)) }
+fn from_filled(target: Target, mode: Mode, g: Guarding, i: Instruction) -> Result<Record, Refusal>
+    ensures { numbered result ≡ decided_by target mode false true (fit_by (guard_good g) (record_of (guard_in g) i)) }
 {
     let r = record_of(guard_in(g), i);
-    let n = last_refusal(target, mode, places::guard_good(g), r);
-    if n != 0 {
-        return Verdict::Numbered(n);
+    match last_refusal(target, mode, places::guard_good(g), r) {
+        Some(refusal) => Err(refusal),
+        None => Ok(r),
     }
-    Verdict::Accepted(r)
 }
 
 // No guard counts in the table of modifiers.
+// Not one with rowplace's `fits`: see there.
 fn row_fits(i: Instruction) -> bool
     ensures { result ≡ instruction_modifiers_fit i }
 {
     fits::modifiers_fit(record_of(Guard::Always, i))
 }
 
-fn from_row(target: Target, mode: Mode, g: Guarding, i: Instruction, operands: Operands) -> Verdict
-    ensures { result ≡ decided_by target mode false true (candidate_by g (found.Row i) (filled_of i operands)) }
+fn from_row(
+    target: Target,
+    mode: Mode,
+    g: Guarding,
+    i: Instruction,
+    operands: Operands,
+) -> Result<Record, Refusal>
+    ensures { numbered result ≡ decided_by target mode false true (candidate_by g (Ok i) (filled_of i operands)) }
 {
     if !row_fits(i) {
-        return stopped(false, false, false, true);
+        return Err(Refusal::NoRow);
     }
-    let Filled::Full(j) = fills::fill_in(i, operands) else {
-        return stopped(false, false, false, false);
-    };
-    from_filled(target, mode, g, j)
+    match fills::fill_in(i, operands) {
+        Ok(j) => from_filled(target, mode, g, j),
+        Err(_) => Err(Refusal::NoFit),
+    }
 }
 
-fn from_parts(target: Target, mode: Mode, x: Parts) -> Verdict
-    ensures { result ≡ decided_by target mode false true (candidate_of x) }
+fn from_parts(target: Target, mode: Mode, x: Parts) -> Result<Record, Refusal>
+    ensures { numbered result ≡ decided_by target mode false true (candidate_of x) }
 {
-    let g = x.guard;
-    let head = x.head;
-    let operands = x.operands;
-    match heads::row(head) {
-        Found::Row(i) => {
-            return from_row(target, mode, g, i, operands);
-        }
-        Found::NoOpcode => {
-            return stopped(false, false, true, true);
-        }
-        Found::Wrong(_) => {
-            return stopped(false, false, false, true);
-        }
+    match heads::row(x.head) {
+        Ok(i) => from_row(target, mode, x.guard, i, x.operands),
+        Err(HeadError::NoOpcode) => Err(Refusal::NoOpcode),
+        Err(HeadError::Wrong(_)) => Err(Refusal::NoRow),
     }
 }
 
-fn judge(target: Target, mode: Mode, line: &[u8]) -> Verdict
-    ensures { result ≡ verdict_of target mode line.now }
+// The record, places of refusals aside.
+fn judge(target: Target, mode: Mode, line: &[u8]) -> Result<Record, Refusal>
+    ensures { numbered result ≡ verdict_of target mode line.now }
 {
     if LINE_LIMIT < line.len() {
         // Before a look at its bytes, so that no line takes longer than one of the limit.
-        return stopped(true, true, true, true);
+        return Err(Refusal::LineTooLong);
     }
-    let scanned = shape::shape(line);
-    if !scanned.good {
-        return stopped(false, true, true, true);
+    match shape::shape(line) {
+        Ok(parts) => from_parts(target, mode, parts),
+        Err(_) => Err(Refusal::NoShape),
     }
-    let parts = scanned.parts;
-    from_parts(target, mode, parts)
 }
 
 // ---- the entry point
 
 // A line that is too long has no place, nor has one that its target is too old for, nor one that compares a part with itself.
-const TOO_LONG: u8 = 1;
-
-const TOO_OLD: u8 = 12;
-
-const AGAINST_ITSELF: u8 = 15;
-
-fn refused(n: u8, line: &[u8]) -> Reading
-    ensures { answer_of result ≡ refused_by n line.now }
+fn has_no_place(refusal: Refusal) -> bool
+    ensures { result ≡ no_place (number_of refusal) }
 {
-    if (n == TOO_LONG) | (n == TOO_OLD) | (n == AGAINST_ITSELF) {
-        return Reading::Refused(n);
-    }
-    Reading::RefusedAt(n, places::place(n, line))
+    matches!(
+        refusal,
+        Refusal::LineTooLong | Refusal::TargetTooOld | Refusal::AgainstItself
+    )
 }
 
-pub fn read(target: Target, mode: Mode, line: &[u8]) -> Reading
+#[tactic(auto, unfolding(crate::specs::Mirror::refused_by))]
+fn with_place(refusal: Refusal, line: &[u8]) -> Refused
+    ensures { refused_answer result ≡ refused_by (number_of refusal) line.now }
+{
+    if has_no_place(refusal) {
+        return Refused {
+            refusal,
+            place: None,
+        };
+    }
+    let place = places::place(refusal.number(), line);
+    Refused {
+        refusal,
+        place: Some(place),
+    }
+}
+
+pub fn read(target: Target, mode: Mode, line: &[u8]) -> Result<Record, Refused>
     ensures { Answers target mode line.now (answer_of result) }
 {
     match judge(target, mode, line) {
-        Verdict::Accepted(r) => Reading::Record(r),
-        Verdict::Numbered(n) => refused(n, line),
+        Ok(r) => Ok(r),
+        Err(refusal) => Err(with_place(refusal, line)),
     }
 }

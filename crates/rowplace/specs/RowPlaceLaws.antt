@@ -1,5 +1,5 @@
 -- What the code tries tells whether some row begins with the first names of a head: so where it stops is the place of refusal 4.
-use Rattle.std.specs.Prelude.{ℕ, zero, suc, ◌+◌, ◌-◌, ◌≤◌, ◌<◌, ◌≡◌, Bool, ◌||◌, List, [], ◌∷◌, ◌++◌, map, eqb, length, take}
+use Rattle.std.specs.Prelude.{ℕ, zero, suc, ◌+◌, ◌-◌, ◌≤◌, ◌<◌, ◌≡◌, Bool, ◌||◌, List, [], ◌∷◌, ◌++◌, map, eqb, length, take, Result, Ok, Err}
 use Rattle.std.proofs.Common.{arith, ap₂, ◌∙◌, subst, take_at, lt-ltb, le-ltb, ltb-true, ltb-false}
 use Rattle.std.proofs.Math.Path.{refl, sym, ap}
 use Rattle.std.proofs.Math.Bool.{true, false, cond}
@@ -31,8 +31,7 @@ use Rattle.tree.specs.Blank.{no_pred, blank_choice}
 use Rattle.heads.specs.Rows.{name_at, row_of}
 use Rattle.heads.specs.Complete.{row_complete, fit_blank}
 use Rattle.heads.specs.Sound.{kept_at, row_sound}
-use Rattle.heads.specs.declared.Found.{Found}
-use Rattle.heads.specs.declared.Found.TheVariants.{Row, NoOpcode, Wrong}
+use Rattle.heads.specs.declared.HeadError.{HeadError}
 use Rattle.rowplace.specs.Tries.{is_found, is_row, entry, completed, tried, begins_row, guess_of, row_place_of}
 use Rattle.rowplace.specs.EndingLaws.{endings, Ends, row_ends}
 
@@ -45,10 +44,10 @@ row_right : (ns : List Name) → GoodNames ns → is_row (seen_head ns) ≡ true
 unfolding is_row
 row_right ns g e = go (row_of (seen_head ns)) refl e
   where
-    go : (f : Found) → row_of (seen_head ns) ≡ f → is_found f ≡ true → LegalNames ns
-    go (Row i) p q = record { instruction = i; row = record { names = (row_sound ns i g p).0; fit = q } }
-    go NoOpcode p q = not_so q
-    go (Wrong k) p q = not_so q
+    go : (f : Result Instruction HeadError) → row_of (seen_head ns) ≡ f → is_found f ≡ true → LegalNames ns
+    go (Ok i) p q = record { instruction = i; row = record { names = (row_sound ns i g p).0; fit = q } }
+    go (Err HeadError.NoOpcode) p q = not_so q
+    go (Err (HeadError.Wrong k)) p q = not_so q
 
 row_all : (ns : List Name) → LegalNames ns → is_row (seen_head ns) ≡ true
 unfolding is_row

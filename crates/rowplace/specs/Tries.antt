@@ -1,5 +1,5 @@
 -- How far a head begins as a row does, as the code tries it. No one has to believe it: laws join it to the table.
-use Rattle.std.specs.Prelude.{ℕ, ◌+◌, ◌-◌, [], ◌∷◌, ◌≡◌, Bool, true, false, ◌||◌, cond, eqb, ltb}
+use Rattle.std.specs.Prelude.{ℕ, ◌+◌, ◌-◌, [], ◌∷◌, ◌≡◌, Bool, true, false, ◌||◌, cond, eqb, ltb, Result, Ok, Err}
 use Rattle.base.specs.Pack.{pack}
 use Rattle.signs.specs.Text.{bytes}
 use Rattle.record.specs.Modifiers.{instruction_modifiers_fit}
@@ -7,16 +7,15 @@ use Rattle.record.specs.declared.Instruction.{Instruction}
 use Rattle.begins.specs.Searches.{turns_at, searched}
 use Rattle.tree.specs.declared.Head.{Head}
 use Rattle.heads.specs.Rows.{name_at, row_of}
-use Rattle.heads.specs.declared.Found.{Found}
-use Rattle.heads.specs.declared.Found.TheVariants.{Row, NoOpcode, Wrong}
+use Rattle.heads.specs.declared.HeadError.{HeadError}
 
 abbrev pub fits : Instruction → Bool
 fits i = instruction_modifiers_fit i
 
-abbrev pub is_found : Found → Bool
-is_found (Row i) = fits i
-is_found NoOpcode = false
-is_found (Wrong k) = false
+abbrev pub is_found : Result Instruction HeadError → Bool
+is_found (Ok i) = fits i
+is_found (Err HeadError.NoOpcode) = false
+is_found (Err (HeadError.Wrong k)) = false
 
 unfoldable pub is_row : Head → Bool
 is_row h = is_found (row_of h)
@@ -48,20 +47,20 @@ begins_row h k =
     || (t 1 eq_code 0 0 || (t 3 eq_code u32_code u32_code || (t 2 u32_code f32_code 0 || (t 1 f32_code 0 0 || t 2 eq_code u32_code 0))))))))))
 
 -- where the reader stopped
-unfoldable pub guess_of : Found → ℕ → ℕ
-guess_of (Row i) n = cond (eqb n 0) 0 (n - 1)
-guess_of NoOpcode n = 0
-guess_of (Wrong k) n = k
+unfoldable pub guess_of : Result Instruction HeadError → ℕ → ℕ
+guess_of (Ok i) n = cond (eqb n 0) 0 (n - 1)
+guess_of (Err HeadError.NoOpcode) n = 0
+guess_of (Err (HeadError.Wrong k)) n = k
 
 unfoldable pub row_place_of : Head → ℕ
 row_place_of h =
     let k = guess_of (row_of h) h.n in
     cond (turns_at (begins_row h) h.n k) k (searched (begins_row h) 0 h.n)
 
-pub row_guessed : (h : Head) (f : Found) (k : ℕ) → f ≡ row_of h → k ≡ guess_of f h.n → turns_at (begins_row h) h.n k ≡ true → k ≡ row_place_of h
+pub row_guessed : (h : Head) (f : Result Instruction HeadError) (k : ℕ) → f ≡ row_of h → k ≡ guess_of f h.n → turns_at (begins_row h) h.n k ≡ true → k ≡ row_place_of h
 unfolding row_place_of
 row_guessed h f k r e t = rw (← r, ← e, t)
 
-pub row_searched : (h : Head) (f : Found) (k : ℕ) → f ≡ row_of h → k ≡ guess_of f h.n → turns_at (begins_row h) h.n k ≡ false → searched (begins_row h) 0 h.n ≡ row_place_of h
+pub row_searched : (h : Head) (f : Result Instruction HeadError) (k : ℕ) → f ≡ row_of h → k ≡ guess_of f h.n → turns_at (begins_row h) h.n k ≡ false → searched (begins_row h) 0 h.n ≡ row_place_of h
 unfolding row_place_of
 row_searched h f k r e t = rw (← r, ← e, t)

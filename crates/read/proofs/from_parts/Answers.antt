@@ -1,26 +1,15 @@
+use Rattle.std.proofs.Common.{refl}
 use Rattle.read.specs.Mirror.{candidate_of}
 use Rattle.read.proofs.from_parts.Goals as goal
 
-pub returns-in-Row : goal.returns-in-Row
+pub returns-in-Ok : goal.returns-in-Ok
 unfolding candidate_of
-returns-in-Row c = simp (
-  c.from_row.ensures,
-  ← c.row.ensures,
-  c.in-Row.is,
-)
+returns-in-Ok c = simp (c.from_row.ensures, ← c.row.ensures, c.in-Ok.is)
 
-pub returns-in-NoOpcode : goal.returns-in-NoOpcode
+pub returns-in-Err-NoOpcode : goal.returns-in-Err-NoOpcode
 unfolding candidate_of
-returns-in-NoOpcode c = simp (
-  c.stopped.ensures,
-  ← c.row.ensures,
-  c.in-NoOpcode.is,
-)
+returns-in-Err-NoOpcode c = rw (← c.row.ensures, c.in-Err-NoOpcode.is, c.in-Err-NoOpcode.field-0-is) refl
 
-pub returns-in-Wrong : goal.returns-in-Wrong
+pub returns-in-Err-Wrong : goal.returns-in-Err-Wrong
 unfolding candidate_of
-returns-in-Wrong c = simp (
-  c.stopped-in-Wrong.ensures,
-  ← c.row.ensures,
-  c.in-Wrong.is,
-)
+returns-in-Err-Wrong c = rw (← c.row.ensures, c.in-Err-Wrong.is, c.in-Err-Wrong.field-0-is) refl
