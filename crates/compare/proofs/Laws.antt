@@ -1,15 +1,22 @@
 -- What the proofs of this crate cite: the code's values against the rules'. Assumes nothing.
 use Prim.Native.Nat.{ℕ, ◌+◌, ◌-◌, ◌*◌, ◌%◌, ◌^◌, ◌<◌, ◌≤◌}
 use native.Mathlib.Omega.{arith}
-use mathlib.Core.Path.{◌≡◌, refl, sym, ap, ap₂, subst, ◌∙◌}
+use mathlib.Core.Path.{◌≡◌, refl, sym, ap, ap₂, ◌∙◌}
 use mathlib.Core.Bool.{Bool, true, false, not, cond, ◌||◌}
-use lib.IntN.{ℤ, pos, sub_ℕ}
-use lib.Signed.{le_z}
+use lib.IntN.{pos, sub_ℕ}
+use mir.Syntax.{w32}
+use mir.Val.{to_z}
 use lib.Dec.{T, ltb, leb, eqb}
-use lib.Ieee.{Float, nan, inf, fin, Format, binary32, binary64, is_nan, nan_bits, of_bits, of_fields, div, lt, eq, ne, ones, hid, top, odd, span, climb}
+use lib.Ieee.{Float, nan, Format, is_nan, of_bits, lt, le, eq, ne, ones, hid, top}
 use lib.Ieee.Bits.{nan_bits_is, nan_bits_above}
-use lib.Ieee.Compare.{differs_from_itself, nan_differs}
-use borrow.Author.Tests.{lt-ltb, le-ltb, le-leb, lt-leb, ltb-true, ltb-false}
+use Rattle.std.proofs.Common.{Some, None}
+use Rattle.std.specs.declared.cmp.Ordering.TheVariants.{Less, Equal, Greater}
+use Rattle.std.specs.Ordering.{float_partial_cmp}
+use Rattle.std.specs.Float.{◌≤ᶠ◌, NotNan}
+use mathlib.Core.Logic.{◌⊎◌, inl, inr}
+use Rattle.std.proofs.lemmas.Float.{eq-not_lt, eq_flip, lt_irrefl, lt_trans, le_left, le_right}
+use Rattle.std.proofs.lemmas.Float.{le_of_lt, le_of_eq, lt-or-eq, lt_of_not-le}
+use borrow.Author.Tests.{lt-ltb, le-leb, lt-leb, ltb-true, ltb-false}
 use Rattle.record.specs.declared.DataType.{DataType}
 use Rattle.record.specs.declared.DataType.TheVariants.{B16, B32, B64, U16, U32, U64, S16, S32, S64, F32, F64}
 use Rattle.record.specs.declared.Cmp6.{Cmp6}
@@ -22,40 +29,12 @@ use Rattle.base.specs.Moved.{un, un_high, un_up, un_down, un_lt, un_le, un_eq}
 use Rattle.rules.specs.Numbers.{word_size, half_size, exact_of, holds_z}
 use Rattle.laws.specs.FloatOrder.{only_nan}
 use Rattle.rules.specs.Execution.{value_of, whole_holds, float_holds, comparison_of}
-use Rattle.compare.specs.Mirror.{moved_of, compared_of, six_from, wholes_hold, float_from, compared_hold}
+use Rattle.compare.specs.Mirror.{moved_of, compared_of, six_from, wholes_hold, float_from, float_by, compared_hold}
 
 -- ---- bit patterns
 
-pub pattern_plain : (f : Format) (n : ℕ) → n % top f ≤ ones f * hid f → T (not (nan_bits f n))
-pattern_plain f n h = rw (nan_bits_above f n, le-ltb _ _ h) tt
-
 pub pattern_nan : (f : Format) (n : ℕ) → ones f * hid f < n % top f → of_bits f n ≡ nan
 pattern_nan f n h = only_nan (of_bits f n) (sym (nan_bits_is f n) ∙ nan_bits_above f n ∙ lt-ltb _ _ h)
-
-pub zero_over_zero : (f : Format) → div f (of_bits f 0) (of_bits f 0) ≡ nan
-unfolding div of_bits of_fields odd span climb
-zero_over_zero binary32 = refl
-zero_over_zero binary64 = refl
-
--- only a NaN differs from itself
-not_itself : (x : Float) → (x ≡ nan → ⊥) → ne x x ≡ false
-not_itself x n = go (ne x x) refl
-  where
-    go : (t : Bool) → ne x x ≡ t → t ≡ false
-    go true e = absurd (n (differs_from_itself x (subst T (sym e) tt)))
-    go false e = refl
-
-inf_plain : (s : Bool) → inf s ≡ nan → ⊥
-inf_plain s e = let z : ◌≡◌ {A = ℕ} 0 1 = cc in omega arith
-
-fin_plain : (s : Bool) (m : ℕ) (x : ℤ) → fin s m x ≡ nan → ⊥
-fin_plain s m x e = let z : ◌≡◌ {A = ℕ} 0 1 = cc in omega arith
-
-pub nan_is : (x : Float) → ne x x ≡ is_nan x
-unfolding is_nan
-nan_is nan = nan_differs
-nan_is (inf s) = not_itself (inf s) (inf_plain s)
-nan_is (fin s m x) = not_itself (fin s m x) (fin_plain s m x)
 
 -- ---- comparisons
 
@@ -76,6 +55,57 @@ float_is (CmpOp.Float Gtu) x y = refl
 float_is (CmpOp.Float Geu) x y = refl
 float_is (CmpOp.Float Num) x y = refl
 float_is (CmpOp.Float Nan) x y = refl
+
+-- the order that two floats have, or none, tells the tests apart
+told_apart :
+    (op : CmpOp) (n a e b : Bool)
+    → (T n → ¬ (T a)) → (T n → ¬ (T e)) → (T n → ¬ (T b)) → (T (not n) → T (a || (e || b)))
+    → (T e → ¬ (T a)) → (T b → ¬ (T a)) → (T b → ¬ (T e))
+    → float_by op (cond a (Some Less) (cond e (Some Equal) (cond b (Some Greater) None))) ≡ float_from op n a e b
+told_apart op true true e b na ne nb some ea ba be = absurd (na tt tt)
+told_apart op true false true b na ne nb some ea ba be = absurd (ne tt tt)
+told_apart op true false false true na ne nb some ea ba be = absurd (nb tt tt)
+told_apart op true false false false na ne nb some ea ba be = refl
+told_apart op false true true b na ne nb some ea ba be = absurd (ea tt tt)
+told_apart op false true false true na ne nb some ea ba be = absurd (ba tt tt)
+told_apart op false true false false na ne nb some ea ba be = refl
+told_apart op false false true true na ne nb some ea ba be = absurd (be tt tt)
+told_apart op false false true false na ne nb some ea ba be = refl
+told_apart op false false false true na ne nb some ea ba be = refl
+told_apart op false false false false na ne nb some ea ba be = absurd (some tt)
+
+no_nan : (s t : Bool) → T (not (s || t)) → T (not s) × T (not t)
+no_nan true t h = absurd h
+no_nan false true h = absurd h
+no_nan false false h = (tt, tt)
+
+some_nan : (s t : Bool) → T (s || t) → T (not s) → T (not t) → ⊥
+some_nan true t n a b = a
+some_nan false true n a b = b
+some_nan false false n a b = n
+
+either_way : (s a e b : Bool) → (T s → T a ⊎ T e) → (T (not s) → T b) → T (a || (e || b))
+either_way s true e b f g = tt
+either_way s false true b f g = tt
+either_way s false false true f g = tt
+either_way true false false false f g = elim (f tt) [ inl h ↦ h | inr h ↦ h ]
+either_way false false false false f g = g tt
+
+unlike : (x y : Float) → T (is_nan x || is_nan y) → x ≤ᶠ y → ⊥
+unlike x y n h = some_nan (is_nan x) (is_nan y) n (le_left x y h) (le_right x y h)
+
+some_order : (x y : Float) → NotNan x → NotNan y → T (lt x y || (eq x y || lt y x))
+some_order x y p q = either_way (le x y) (lt x y) (eq x y) (lt y x) (lt-or-eq x y) (lt_of_not-le x y p q)
+
+pub float_by_is : (op : CmpOp) (x y : Float) → float_by op (float_partial_cmp x y) ≡ float_holds op x y
+float_by_is op x y =
+    told_apart op (is_nan x || is_nan y) (lt x y) (eq x y) (lt y x)
+    (λ n k. unlike x y n (le_of_lt x y k))
+    (λ n k. unlike x y n (le_of_eq x y k))
+    (λ n k. let l : y ≤ᶠ x = le_of_lt y x k in some_nan (is_nan x) (is_nan y) n (le_right y x l) (le_left y x l))
+    (λ n. let h = no_nan (is_nan x) (is_nan y) n in some_order x y h.0 h.1)
+    (eq-not_lt x y) (λ h k. lt_irrefl x (lt_trans x y x k h)) (λ h k. eq-not_lt y x (eq_flip x y k) h)
+    ∙ float_is op x y
 
 -- whole numbers moved up by k compare as the exact numbers
 module _ (k x y : ℕ) where
@@ -136,14 +166,14 @@ module _ (op : CmpOp) where
 
 -- ---- slct: at or above zero
 
-pub sign_is : (c : ℕ) → c < 2 ^ 32 → ltb c (2 ^ 31) ≡ le_z (pos 0) (exact_of true word_size c)
+pub signed_word : (c : ℕ) → c < 2 ^ 32 → to_z w32 c ≡ exact_of true word_size c
 unfolding exact_of
-sign_is c h = go (ltb c (2 ^ 31)) refl
+signed_word c h = go (ltb c (2 ^ 31)) refl
   where
-    go : (t : Bool) → ltb c (2 ^ 31) ≡ t → t ≡ le_z (pos 0) (cond (leb word_size (2 * c)) (sub_ℕ c word_size) (pos c))
+    go : (t : Bool) → ltb c (2 ^ 31) ≡ t → to_z w32 c ≡ cond (leb word_size (2 * c)) (sub_ℕ c word_size) (pos c)
     go true e =
         let a : c < 2 ^ 31 = ltb-true c (2 ^ 31) e in
-        rw (lt-leb word_size (2 * c) (omega arith)) (sym (le-leb 0 c (omega arith)))
+        rw (e, lt-leb word_size (2 * c) (omega arith))
     go false e =
         let a : 2 ^ 31 ≤ c = ltb-false c (2 ^ 31) e in
-        rw (le-leb word_size (2 * c) (omega arith), lt-ltb c word_size (omega arith))
+        rw (e, le-leb word_size (2 * c) (omega arith), lt-ltb c word_size h)

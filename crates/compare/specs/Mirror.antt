@@ -1,5 +1,9 @@
 -- The code's side of comparison: a whole number is kept moved up by half of its range where its type has a sign. Laws join it to the rules.
 use Rattle.std.specs.Prelude.{ℕ, ◌+◌, ◌-◌, ◌%◌, ◌^◌, Bool, false, not, ◌&&◌, ◌||◌, cond, ltb, eqb}
+use Rattle.std.specs.Prelude.{Option}
+use Rattle.std.specs.declared.cmp.Ordering.{Ordering}
+use Rattle.std.specs.Ordering.{is_lt, is_eq, is_gt, is_some_and}
+use Rattle.std.specs.Option.{is_some}
 use Rattle.std.specs.Float.{binary32, binary64}
 use Rattle.std.specs.Float.Ieee.{of_bits}
 use Rattle.record.specs.declared.DataType.{DataType}
@@ -76,6 +80,15 @@ abbrev pub float_from : CmpOp → Bool → Bool → Bool → Bool → Bool
 float_from (CmpOp.Six op) nan less same more = ordered_from op nan less same more
 float_from (CmpOp.Unsigned op) nan less same more = false
 float_from (CmpOp.Float op) nan less same more = unordered_from op nan less same more
+
+-- the same of the order of two floats, which is none where some is NaN
+abbrev pub unordered_by : CmpF → Option Ordering → Bool
+unordered_by op o =
+    unordered_from op (not (is_some o)) (is_some_and is_lt o) (is_some_and is_eq o) (is_some_and is_gt o)
+
+abbrev pub float_by : CmpOp → Option Ordering → Bool
+float_by op o =
+    float_from op (not (is_some o)) (is_some_and is_lt o) (is_some_and is_eq o) (is_some_and is_gt o)
 
 abbrev pub wholes_hold : CmpOp → ℕ → ℕ → Bool
 wholes_hold op x y = whole_from op (ltb x y) (eqb x y) (ltb y x)

@@ -1,14 +1,16 @@
 // The comparison of set and setp, what they write, and the test of slct, as functions of the numbers that the registers hold.
 #![tactic(auto)]
 
-ghost use Rattle.std.specs.Prelude.{◌≡◌, ◌^◌, ◌≤◌};
-ghost use Rattle.std.specs.Float.{binary32, binary64};
-ghost use Rattle.std.specs.Float.Ieee.{of_bits, is_nan};
-ghost use Rattle.rules.specs.Execution.{flushed, float_holds, comparison_of, bool_of, true_of, set_of, not_below_zero};
-ghost use Rattle.compare.specs.Mirror.{moved_of, compared_of, six_from, unsigned_from, whole_from, ordered_from, unordered_from, float_from, wholes_hold, compared_hold};
+ghost use Rattle.std.specs.Prelude.{◌≡◌, ℕ, ◌*◌, ◌%◌, ◌^◌, ◌<◌, ◌≤◌, refl};
+ghost use Rattle.std.specs.Float.{Float, Format, binary32, binary64};
+ghost use Rattle.std.specs.Float.Ieee.{of_bits, top, ones, hid, nan};
+ghost use Rattle.rules.specs.Execution.{flushed, comparison_of, bool_of, true_of, set_of, not_below_zero};
+ghost use Rattle.std.specs.Ordering.{is_lt, is_eq, is_gt};
+ghost use Rattle.compare.specs.Mirror.{moved_of, compared_of, six_from, unsigned_from, unordered_by, float_by, wholes_hold, compared_hold};
 
 use record::{BoolOp, Cmp6, CmpF, CmpOp, CmpU, DataType, SetType, SlctType};
 use registers::{HALF_SIZE, WORD_SIZE};
+use std::cmp::Ordering;
 
 // A compared value is a whole number, a single or a double. Whole numbers of a signed type are moved up by half of their range.
 #[derive(Clone, Copy)]
@@ -21,24 +23,114 @@ pub enum Compared {
 // ---- the bits of a register as a value
 
 // Half as many values as a half has, as a word has, and as a double has.
-const HALF_OF_HALVES: u64 = 32768;
+const HALF_OF_HALVES: u64 = HALF_SIZE / 2;
 
-const HALF_OF_WORDS: u64 = 2147483648;
+const HALF_OF_WORDS: u64 = WORD_SIZE / 2;
 
-const HALF_OF_DOUBLES: u64 = 9223372036854775808;
+const HALF_OF_DOUBLES: u64 = 1 << 63;
 
-// f32: the sign's weight, the smallest normal number and infinity, as patterns. f64: the sign's weight and infinity.
+// f32: the sign's weight and the smallest normal number, as patterns.
 const SIGN32: u32 = 0x80000000;
 
 const NORMAL32: u32 = 0x00800000;
 
-const INFINITY32: u32 = 0x7f800000;
+// Subnormal patterns become the zero of their sign.
+fn flush(ftz: bool, bits: u32) -> u32
+    ensures { result ≡ flushed ftz bits }
+{
+    if ftz & (bits % SIGN32 < NORMAL32) {
+        if SIGN32 <= bits { SIGN32 } else { 0 }
+    } else {
+        bits
+    }
+}
 
-const SIGN64: u64 = 0x8000000000000000;
+// A float type: the sign's weight and infinity, as patterns, and the float of a pattern that is no NaN's.
+trait Ieee {
+    const SIGN: u64;
 
-const INFINITY64: u64 = 0x7ff0000000000000;
+    const INFINITY: u64;
+
+    ghost SIGN: { ℕ };
+
+    ghost INFINITY: { ℕ };
+
+    ghost format: { Format };
+
+    ghost number: { Self → Float };
+
+    fn nan() -> Self
+        ensures { number result ≡ nan };
+
+    fn of_plain(bits: u64) -> Self
+        requires { (bits < 2 * SIGN) × (bits % SIGN ≤ INFINITY) }
+        ensures { number result ≡ of_bits format bits };
+
+    ghost patterns: { (SIGN ≡ top format) × (INFINITY ≡ ones format * hid format) };
+}
+
+impl Ieee for f32 {
+    const SIGN: u64 = 0x80000000;
+
+    const INFINITY: u64 = 0x7f800000;
+
+    ghost SIGN = { 0x80000000 };
+
+    ghost INFINITY = { 0x7f800000 };
+
+    ghost format = { binary32 };
+
+    ghost number = { λ x. x };
+
+    ghost patterns = { (refl, refl) };
+
+    fn nan() -> f32 {
+        f32::NAN
+    }
+
+    fn of_plain(bits: u64) -> f32 {
+        f32::from_bits(bits as u32)
+    }
+}
+
+impl Ieee for f64 {
+    const SIGN: u64 = 0x8000000000000000;
+
+    const INFINITY: u64 = 0x7ff0000000000000;
+
+    ghost SIGN = { 0x8000000000000000 };
+
+    ghost INFINITY = { 0x7ff0000000000000 };
+
+    ghost format = { binary64 };
+
+    ghost number = { λ x. x };
+
+    ghost patterns = { (refl, refl) };
+
+    fn nan() -> f64 {
+        f64::NAN
+    }
+
+    fn of_plain(bits: u64) -> f64 {
+        f64::from_bits(bits)
+    }
+}
+
+// The float of a pattern: a NaN for every NaN pattern.
+fn float_of<F: Ieee>(bits: u64) -> F
+    requires { bits < 2 * F.SIGN }
+    ensures { F.number result ≡ of_bits F.format bits }
+{
+    if F::INFINITY < bits % F::SIGN {
+        F::nan()
+    } else {
+        F::of_plain(bits)
+    }
+}
 
 // A signed number with half of its range on either side of zero, moved up by that half.
+#[tactic(auto, unfolding(crate::specs::Mirror::moved_of))]
 fn moved(half: u64, x: u64) -> u64
     requires { half ≤ 2 ^ 63 }
     ensures { result ≡ moved_of half x }
@@ -46,186 +138,98 @@ fn moved(half: u64, x: u64) -> u64
     if x < half { x + half } else { x - half }
 }
 
-// Subnormal patterns become the zero of their sign.
-fn flush(ftz: bool, bits: u32) -> u32
-    ensures { result ≡ flushed ftz bits }
-{
-    if ftz & (bits % SIGN32 < NORMAL32) {
-        if SIGN32 <= bits {
-            return SIGN32;
-        }
-        return 0;
-    }
-    bits
-}
-
-// The single of a pattern: a NaN for every NaN pattern.
-fn single(bits: u32) -> f32
-    ensures { result ≡ of_bits binary32 bits }
-{
-    if INFINITY32 < bits % SIGN32 {
-        0.0 / 0.0
-    } else {
-        f32::from_bits(bits)
-    }
-}
-
-fn double(bits: u64) -> f64
-    ensures { result ≡ of_bits binary64 bits }
-{
-    if INFINITY64 < bits % SIGN64 {
-        0.0 / 0.0
-    } else {
-        f64::from_bits(bits)
-    }
-}
-
 // A type of 32 bits looks at the low 32, one of 16 at the low 16.
+#[tactic(auto, unfolding(crate::specs::Mirror::compared_of))]
 fn value(t: DataType, ftz: bool, x: u64) -> Compared
     ensures { result ≡ compared_of t ftz x }
 {
-    let low = x % WORD_SIZE;
-    let low_half = x % HALF_SIZE;
     match t {
-        DataType::B16 => Compared::Whole(low_half),
-        DataType::B32 => Compared::Whole(low),
-        DataType::B64 => Compared::Whole(x),
-        DataType::U16 => Compared::Whole(low_half),
-        DataType::U32 => Compared::Whole(low),
-        DataType::U64 => Compared::Whole(x),
-        DataType::S16 => Compared::Whole(moved(HALF_OF_HALVES, low_half)),
-        DataType::S32 => Compared::Whole(moved(HALF_OF_WORDS, low)),
+        DataType::B16 | DataType::U16 => Compared::Whole(x % HALF_SIZE),
+        DataType::B32 | DataType::U32 => Compared::Whole(x % WORD_SIZE),
+        DataType::B64 | DataType::U64 => Compared::Whole(x),
+        DataType::S16 => Compared::Whole(moved(HALF_OF_HALVES, x % HALF_SIZE)),
+        DataType::S32 => Compared::Whole(moved(HALF_OF_WORDS, x % WORD_SIZE)),
         DataType::S64 => Compared::Whole(moved(HALF_OF_DOUBLES, x)),
-        DataType::F32 => Compared::Single(single(flush(ftz, registers::low_word(x)))),
-        DataType::F64 => Compared::Double(double(x)),
+        DataType::F32 => Compared::Single(float_of(u64::from(flush(ftz, registers::low_word(x))))),
+        DataType::F64 => Compared::Double(float_of(x)),
     }
 }
 
-// ---- comparisons, from the tests that less, same and more hold
+// ---- comparisons, from the order of the two
 
-fn six_from(op: Cmp6, less: bool, same: bool, more: bool) -> bool
-    ensures { result ≡ six_from op less same more }
+fn six_holds(op: Cmp6, order: Ordering) -> bool
+    ensures { result ≡ six_from op (is_lt order) (is_eq order) (is_gt order) }
 {
     match op {
-        Cmp6::Eq => same,
-        Cmp6::Ne => !same,
-        Cmp6::Lt => less,
-        Cmp6::Le => !more,
-        Cmp6::Gt => more,
-        Cmp6::Ge => !less,
+        Cmp6::Eq => order.is_eq(),
+        Cmp6::Ne => order.is_ne(),
+        Cmp6::Lt => order.is_lt(),
+        Cmp6::Le => order.is_le(),
+        Cmp6::Gt => order.is_gt(),
+        Cmp6::Ge => order.is_ge(),
     }
 }
 
-fn unsigned_from(op: CmpU, less: bool, more: bool) -> bool
-    ensures { result ≡ unsigned_from op less more }
+fn unsigned_holds(op: CmpU, order: Ordering) -> bool
+    ensures { result ≡ unsigned_from op (is_lt order) (is_gt order) }
 {
     match op {
-        CmpU::Lo => less,
-        CmpU::Ls => !more,
-        CmpU::Hi => more,
-        CmpU::Hs => !less,
+        CmpU::Lo => order.is_lt(),
+        CmpU::Ls => order.is_le(),
+        CmpU::Hi => order.is_gt(),
+        CmpU::Hs => order.is_ge(),
     }
 }
 
-fn whole_from(op: CmpOp, less: bool, same: bool, more: bool) -> bool
-    ensures { result ≡ whole_from op less same more }
+fn wholes_hold(op: CmpOp, x: u64, y: u64) -> bool
+    ensures { result ≡ wholes_hold op x y }
 {
     match op {
-        CmpOp::Six(s) => six_from(s, less, same, more),
-        CmpOp::Unsigned(u) => unsigned_from(u, less, more),
+        CmpOp::Six(s) => six_holds(s, x.cmp(&y)),
+        CmpOp::Unsigned(u) => unsigned_holds(u, x.cmp(&y)),
         CmpOp::Float(_) => false,
     }
 }
 
+// Unordered forms are true with a NaN, which has no order.
+fn unordered_holds(op: CmpF, order: Option<Ordering>) -> bool
+    ensures { result ≡ unordered_by op order }
+{
+    let Some(o) = order else {
+        return !matches!(op, CmpF::Num);
+    };
+    match op {
+        CmpF::Equ => o.is_eq(),
+        CmpF::Neu => o.is_ne(),
+        CmpF::Ltu => o.is_lt(),
+        CmpF::Leu => o.is_le(),
+        CmpF::Gtu => o.is_gt(),
+        CmpF::Geu => o.is_ge(),
+        CmpF::Num => true,
+        CmpF::Nan => false,
+    }
+}
+
 // Ordered forms are false with a NaN.
-fn ordered_from(op: Cmp6, nan: bool, less: bool, same: bool, more: bool) -> bool
-    ensures { result ≡ ordered_from op nan less same more }
+fn floats_hold<F: PartialOrd + Drop>(op: CmpOp, x: F, y: F) -> bool
+    ensures { result ≡ float_by op (F.partial_cmp x y) }
 {
-    match op {
-        Cmp6::Eq => same,
-        Cmp6::Ne => !nan & !same,
-        Cmp6::Lt => less,
-        Cmp6::Le => less | same,
-        Cmp6::Gt => more,
-        Cmp6::Ge => more | same,
+    match (op, x.partial_cmp(&y)) {
+        (CmpOp::Six(s), Some(order)) => six_holds(s, order),
+        (CmpOp::Six(_), None) | (CmpOp::Unsigned(_), _) => false,
+        (CmpOp::Float(f), order) => unordered_holds(f, order),
     }
 }
 
-// Unordered forms are true with a NaN.
-fn unordered_from(op: CmpF, nan: bool, less: bool, same: bool, more: bool) -> bool
-    ensures { result ≡ unordered_from op nan less same more }
-{
-    match op {
-        CmpF::Equ => nan | same,
-        CmpF::Neu => nan | !same,
-        CmpF::Ltu => nan | less,
-        CmpF::Leu => nan | (less | same),
-        CmpF::Gtu => nan | more,
-        CmpF::Geu => nan | (more | same),
-        CmpF::Num => !nan,
-        CmpF::Nan => nan,
-    }
-}
-
-fn float_from(op: CmpOp, nan: bool, less: bool, same: bool, more: bool) -> bool
-    ensures { result ≡ float_from op nan less same more }
-{
-    match op {
-        CmpOp::Six(s) => ordered_from(s, nan, less, same, more),
-        CmpOp::Unsigned(_) => false,
-        CmpOp::Float(f) => unordered_from(f, nan, less, same, more),
-    }
-}
-
-fn wholes(op: CmpOp, x: u64, y: u64) -> bool
-    ensures { result ≡ wholes_hold op x y }
-{
-    whole_from(op, x < y, x == y, y < x)
-}
-
-fn nan_single(x: f32) -> bool
-    ensures { result ≡ is_nan x }
-{
-    x != x
-}
-
-fn nan_double(x: f64) -> bool
-    ensures { result ≡ is_nan x }
-{
-    x != x
-}
-
-fn singles(op: CmpOp, x: f32, y: f32) -> bool
-    ensures { result ≡ float_holds op x y }
-{
-    float_from(op, nan_single(x) | nan_single(y), x < y, x == y, y < x)
-}
-
-fn doubles(op: CmpOp, x: f64, y: f64) -> bool
-    ensures { result ≡ float_holds op x y }
-{
-    float_from(op, nan_double(x) | nan_double(y), x < y, x == y, y < x)
-}
-
+#[tactic(auto, unfolding(crate::specs::Mirror::compared_hold))]
 fn compare(op: CmpOp, x: Compared, y: Compared) -> bool
     ensures { result ≡ compared_hold op x y }
 {
-    match x {
-        Compared::Whole(a) => match y {
-            Compared::Whole(b) => wholes(op, a, b),
-            Compared::Single(_) => false,
-            Compared::Double(_) => false,
-        },
-        Compared::Single(a) => match y {
-            Compared::Whole(_) => false,
-            Compared::Single(b) => singles(op, a, b),
-            Compared::Double(_) => false,
-        },
-        Compared::Double(a) => match y {
-            Compared::Whole(_) => false,
-            Compared::Single(_) => false,
-            Compared::Double(b) => doubles(op, a, b),
-        },
+    match (x, y) {
+        (Compared::Whole(a), Compared::Whole(b)) => wholes_hold(op, a, b),
+        (Compared::Single(a), Compared::Single(b)) => floats_hold(op, a, b),
+        (Compared::Double(a), Compared::Double(b)) => floats_hold(op, a, b),
+        _ => false,
     }
 }
 
@@ -253,9 +257,8 @@ fn true_of(dtype: SetType) -> u32
     ensures { result ≡ true_of dtype }
 {
     match dtype {
-        SetType::U32 => 0xffffffff,
-        SetType::S32 => 0xffffffff,
-        SetType::F32 => 0x3f800000,
+        SetType::U32 | SetType::S32 => u32::MAX,
+        SetType::F32 => 1f32.to_bits(),
     }
 }
 
@@ -263,8 +266,7 @@ fn true_of(dtype: SetType) -> u32
 pub fn set_value(dtype: SetType, t: bool) -> u32
     ensures { result ≡ set_of dtype t }
 {
-    let v = true_of(dtype);
-    if t { v } else { 0 }
+    if t { true_of(dtype) } else { 0 }
 }
 
 // Whether slct's c is at or above zero; with `ftz` a subnormal c counts as zero (T-02).
@@ -272,10 +274,7 @@ pub fn not_below_zero(ctype: SlctType, c: u32) -> bool
     ensures { result ≡ not_below_zero ctype c }
 {
     match ctype {
-        SlctType::S32 => c < SIGN32,
-        SlctType::F32 { ftz } => {
-            let x = single(flush(ftz, c));
-            (0.0 < x) | (0.0 == x)
-        }
+        SlctType::S32 => 0 <= c.cast_signed(),
+        SlctType::F32 { ftz } => 0.0 <= float_of::<f32>(u64::from(flush(ftz, c))),
     }
 }

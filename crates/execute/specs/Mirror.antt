@@ -28,13 +28,13 @@ use Rattle.execute.specs.declared.Write.{Write}
 
 -- ---- what is read, of the files that an operand can name
 
-abbrev pub operand_in : List ℕ → List ℕ → List ℕ → Operand → ℕ
-operand_in words halves doubles (Operand.Word w) = get_or words w.0 0
-operand_in words halves doubles (Operand.Half h) = get_or halves h.0 0
-operand_in words halves doubles (Operand.Double d) = get_or doubles d.0 0
+abbrev pub operand_in : Files → Operand → ℕ
+operand_in f (Operand.Word w) = get_or f.words w.0 0
+operand_in f (Operand.Half h) = get_or f.halves h.0 0
+operand_in f (Operand.Double d) = get_or f.doubles d.0 0
 
-unfoldable pub test_in : Target → List ℕ → List ℕ → List ℕ → Comparison → Bool
-test_in target words halves doubles s = comparison_of s.cmp (flushes target s.ftz) s.stype (operand_in words halves doubles s.a) (operand_in words halves doubles s.b)
+unfoldable pub test_in : Target → Files → Comparison → Bool
+test_in target f s = comparison_of s.cmp (flushes target s.ftz) s.stype (operand_in f s.a) (operand_in f s.b)
 
 -- ---- what each kind of instruction writes
 
@@ -59,32 +59,37 @@ abbrev pub arithmetic_lanes_write : LaneArith → VideoType → Bool → Lanes �
 arithmetic_lanes_write op dtype sat l words =
     Write.Word l.d (arithmetic_lanes_of op dtype sat l (word_of words l.a) (word_of words l.b) (word_of words l.c))
 
-abbrev pub set_write : Target → SetType → Word → Comparison → List ℕ → List ℕ → List ℕ → List ℕ → Write
-set_write target dtype d s words halves doubles preds = Write.Word d (set_of dtype (combined_of preds s.combination (test_in target words halves doubles s)))
+abbrev pub set_write : Target → SetType → Word → Comparison → Files → Write
+set_write target dtype d s f = Write.Word d (set_of dtype (combined_of f.preds s.combination (test_in target f s)))
 
-abbrev pub setp_write : Target → Destination → Comparison → List ℕ → List ℕ → List ℕ → List ℕ → Write
-setp_write target d s words halves doubles preds =
-    Write.Preds d (combined_of preds s.combination (test_in target words halves doubles s)) (combined_of preds s.combination (not (test_in target words halves doubles s)))
+abbrev pub setp_write : Target → Destination → Comparison → Files → Write
+setp_write target d s f =
+    Write.Preds d
+    (combined_of f.preds s.combination (test_in target f s))
+    (combined_of f.preds s.combination (not (test_in target f s)))
 
 -- what selp and slct choose of a and b
-abbrev pub either_of : Bool → Choice → List ℕ → List ℕ → List ℕ → ℕ
-either_of first s words halves doubles = cond first (operand_in words halves doubles s.a) (operand_in words halves doubles s.b)
+abbrev pub either_of : Bool → Choice → Files → ℕ
+either_of first s f = cond first (operand_in f s.a) (operand_in f s.b)
 
-abbrev pub selp_write : Pred → Choice → List ℕ → List ℕ → List ℕ → List ℕ → Write
-selp_write c s words halves doubles preds = operand_write s.d (selp_of (pred_of preds c) (operand_in words halves doubles s.a) (operand_in words halves doubles s.b))
+abbrev pub selp_write : Pred → Choice → Files → Write
+selp_write c s f =
+    operand_write s.d (selp_of (pred_of f.preds c) (operand_in f s.a) (operand_in f s.b))
 
-abbrev pub slct_write : Target → SlctType → Word → Choice → List ℕ → List ℕ → List ℕ → Write
-slct_write target ctype c s words halves doubles = operand_write s.d (slct_of (slct_type_at target ctype) (word_of words c) (operand_in words halves doubles s.a) (operand_in words halves doubles s.b))
+abbrev pub slct_write : Target → SlctType → Word → Choice → Files → Write
+slct_write target ctype c s f =
+    operand_write s.d
+    (slct_of (slct_type_at target ctype) (word_of f.words c) (operand_in f s.a) (operand_in f s.b))
 
-unfoldable pub write_of : Target → Instruction → List ℕ → List ℕ → List ℕ → List ℕ → Write
-write_of target (Arithmetic op dtype sat s) words halves doubles preds = arithmetic_write op dtype sat s words
-write_of target (Vset cmp s) words halves doubles preds = vset_write cmp s words
-write_of target (VsetLanes cmp l) words halves doubles preds = lanes_write cmp l words
-write_of target (ArithmeticLanes op dtype sat l) words halves doubles preds = arithmetic_lanes_write op dtype sat l words
-write_of target (Set dtype d s) words halves doubles preds = set_write target dtype d s words halves doubles preds
-write_of target (Setp d s) words halves doubles preds = setp_write target d s words halves doubles preds
-write_of target (Selp s c) words halves doubles preds = selp_write c s words halves doubles preds
-write_of target (Slct ctype s c) words halves doubles preds = slct_write target ctype c s words halves doubles
+unfoldable pub write_of : Target → Instruction → Files → Write
+write_of target (Arithmetic op dtype sat s) f = arithmetic_write op dtype sat s f.words
+write_of target (Vset cmp s) f = vset_write cmp s f.words
+write_of target (VsetLanes cmp l) f = lanes_write cmp l f.words
+write_of target (ArithmeticLanes op dtype sat l) f = arithmetic_lanes_write op dtype sat l f.words
+write_of target (Set dtype d s) f = set_write target dtype d s f
+write_of target (Setp d s) f = setp_write target d s f
+write_of target (Selp s c) f = selp_write c s f
+write_of target (Slct ctype s c) f = slct_write target ctype c s f
 
 -- ---- what the files hold after it
 

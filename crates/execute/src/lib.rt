@@ -1,24 +1,26 @@
 // Executes one record on the four lent files: reads all sources, computes, writes the places.
 #![tactic(auto)]
 
-ghost use Rattle.std.specs.Prelude.{◌≡◌, cond, set};
+ghost use Rattle.std.specs.Prelude.{◌≡◌, set, nat_le};
+ghost use Rattle.std.specs.List.{list_all};
 ghost use Rattle.record.specs.Registers.{files};
-ghost use Rattle.rules.specs.Executing.{selected_word, form_c, form_d, condition_holds, combined_of, sizes_fit, preds_fit, guard_holds, outcome, run};
+ghost use Rattle.rules.specs.Executing.{selected_word, form_c, form_d, condition_holds, combined_of, sizes_fit, guard_holds, outcome, run};
 ghost use Rattle.execute.specs.Answers.{answer_of};
-ghost use Rattle.execute.specs.Mirror.{operand_in, test_in, operand_write, arithmetic_write, vset_write, lanes_write, arithmetic_lanes_write, set_write, setp_write, either_of, selp_write, slct_write, write_of, preds_with, written};
+ghost use Rattle.execute.specs.Mirror.{test_in, operand_write, arithmetic_write, vset_write, lanes_write, arithmetic_lanes_write, set_write, setp_write, either_of, selp_write, slct_write, write_of, preds_with, written};
 
 use record::{
     Arith, Choice, Cmp6, Combination, Comparison, Condition, Destination, Double, Form, Guard,
-    Half, Instruction, LaneArith, Lanes, Operand, Pred, Record, Scalar, Selected, SetType,
-    SlctType, Target, VideoType, Word,
+    Half, Instruction, LaneArith, Lanes, Numbered, Operand, Pred, Record, Scalar, Selected,
+    SetType, SlctType, Target, VideoType, Word,
 };
+use refusals::Refusal;
+use registers::Files;
 
-// Done, skipped (guard false), or refused with the documents' number.
+// Done, or skipped (guard false).
 #[derive(Clone, Copy)]
 pub enum Executed {
     Done,
     Skipped,
-    Refused(u8),
 }
 
 // What an instruction writes: a word, a half-word, a double-word, or the places of a destination.
@@ -32,60 +34,18 @@ enum Write {
 
 // ---- registers: no place past the end is written
 
-fn put_word(words: &mut [u32], w: Word, v: u32)
-    ensures { words.new ≡ set words.old w.0 v }
+fn put<R: Numbered>(file: &mut [R::Value], x: R, v: R::Value)
+    ensures { file.new ≡ set file.old (R.number x) v }
 {
-    let i = w.0 as usize;
-    if i < words.len() {
-        words[i] = v;
+    let i = x.number() as usize;
+    if i < file.len() {
+        file[i] = v;
     }
 }
 
-fn put_half(halves: &mut [u16], h: Half, v: u16)
-    ensures { halves.new ≡ set halves.old h.0 v }
-{
-    let i = h.0 as usize;
-    if i < halves.len() {
-        halves[i] = v;
-    }
-}
+// ---- what a record names
 
-fn put_double(doubles: &mut [u64], d: Double, v: u64)
-    ensures { doubles.new ≡ set doubles.old d.0 v }
-{
-    let i = d.0 as usize;
-    if i < doubles.len() {
-        doubles[i] = v;
-    }
-}
-
-fn put_pred(preds: &mut [u8], p: Pred, v: u8)
-    ensures { preds.new ≡ set preds.old p.0 v }
-{
-    let i = p.0 as usize;
-    if i < preds.len() {
-        preds[i] = v;
-    }
-}
-
-// ---- operands by width
-
-fn widened(x: u32) -> u64
-    ensures { result ≡ x }
-{
-    x as u64
-}
-
-fn operand(o: Operand, words: &[u32], halves: &[u16], doubles: &[u64]) -> u64
-    ensures { result ≡ operand_in words.now halves.now doubles.now o }
-{
-    match o {
-        Operand::Word(w) => widened(registers::word_at(words, w)),
-        Operand::Half(h) => widened(registers::half_at(halves, h) as u32),
-        Operand::Double(d) => registers::double_at(doubles, d),
-    }
-}
-
+#[tactic(auto, unfolding(crate::specs::Mirror::operand_write))]
 fn operand_write(o: Operand, v: u64) -> Write
     ensures { result ≡ operand_write o v }
 {
@@ -96,24 +56,11 @@ fn operand_write(o: Operand, v: u64) -> Write
     }
 }
 
-// ---- scalar video
-
 fn selected_word(s: Selected) -> Word
     ensures { result ≡ selected_word s }
 {
     match s {
-        Selected::Whole(w) => w,
-        Selected::Part(w, _) => w,
-    }
-}
-
-fn form_c(f: Form, words: &[u32]) -> u32
-    ensures { result ≡ form_c words.now f }
-{
-    match f {
-        Form::Plain { .. } => 0,
-        Form::Merge { c, .. } => registers::word_at(words, c),
-        Form::Combine { c, .. } => registers::word_at(words, c),
+        Selected::Whole(w) | Selected::Part(w, _) => w,
     }
 }
 
@@ -121,282 +68,232 @@ fn form_d(f: Form) -> Word
     ensures { result ≡ form_d f }
 {
     match f {
-        Form::Plain { d } => d,
-        Form::Merge { d, .. } => d,
-        Form::Combine { d, .. } => d,
+        Form::Plain { d } | Form::Merge { d, .. } | Form::Combine { d, .. } => d,
     }
 }
 
-fn arithmetic_write(op: Arith, dtype: VideoType, sat: bool, s: Scalar, words: &[u32]) -> Write
-    ensures { result ≡ arithmetic_write op dtype sat s words.now }
+// ---- what is read, each source of the files as they are before any destination is written
+
+// ---- scalar video and its forms with 2 and 4
+
+fn form_c(from: &Files, f: Form) -> u32
+    ensures { result ≡ form_c from.now.words f }
 {
-    let sa = s.a;
-    let sb = s.b;
-    let f = s.form;
-    let a = registers::word_at(words, selected_word(sa));
-    let b = registers::word_at(words, selected_word(sb));
-    let c = form_c(f, words);
-    Write::Word(form_d(f), video::arithmetic(op, dtype, sat, s, a, b, c))
+    match f {
+        Form::Plain { .. } => 0,
+        Form::Merge { c, .. } | Form::Combine { c, .. } => registers::at(from.words, c),
+    }
 }
 
-fn vset_write(cmp: Cmp6, s: Scalar, words: &[u32]) -> Write
-    ensures { result ≡ vset_write cmp s words.now }
+fn arithmetic_write(from: &Files, op: Arith, dtype: VideoType, sat: bool, s: Scalar) -> Write
+    ensures { result ≡ arithmetic_write op dtype sat s from.now.words }
 {
-    let sa = s.a;
-    let sb = s.b;
-    let f = s.form;
-    let a = registers::word_at(words, selected_word(sa));
-    let b = registers::word_at(words, selected_word(sb));
-    let c = form_c(f, words);
-    Write::Word(form_d(f), video::vset(cmp, s, a, b, c))
+    let a = registers::at(from.words, selected_word(s.a));
+    let b = registers::at(from.words, selected_word(s.b));
+    let c = form_c(from, s.form);
+    Write::Word(
+        form_d(s.form),
+        video::arithmetic(op, dtype, sat, s, a, b, c),
+    )
 }
 
-fn lanes_write(cmp: Cmp6, l: Lanes, words: &[u32]) -> Write
-    ensures { result ≡ lanes_write cmp l words.now }
+fn vset_write(from: &Files, cmp: Cmp6, s: Scalar) -> Write
+    ensures { result ≡ vset_write cmp s from.now.words }
 {
-    let d = l.d;
-    let a = registers::word_at(words, l.a);
-    let b = registers::word_at(words, l.b);
-    let c = registers::word_at(words, l.c);
-    Write::Word(d, video::vset_lanes(cmp, l, a, b, c))
+    let a = registers::at(from.words, selected_word(s.a));
+    let b = registers::at(from.words, selected_word(s.b));
+    let c = form_c(from, s.form);
+    Write::Word(form_d(s.form), video::vset(cmp, s, a, b, c))
+}
+
+fn lanes_write(from: &Files, cmp: Cmp6, l: Lanes) -> Write
+    ensures { result ≡ lanes_write cmp l from.now.words }
+{
+    let a = registers::at(from.words, l.a);
+    let b = registers::at(from.words, l.b);
+    let c = registers::at(from.words, l.c);
+    Write::Word(l.d, video::vset_lanes(cmp, l, a, b, c))
 }
 
 fn arithmetic_lanes_write(
+    from: &Files,
     op: LaneArith,
     dtype: VideoType,
     sat: bool,
     l: Lanes,
-    words: &[u32],
 ) -> Write
-    ensures { result ≡ arithmetic_lanes_write op dtype sat l words.now }
+    ensures { result ≡ arithmetic_lanes_write op dtype sat l from.now.words }
 {
-    let d = l.d;
-    let a = registers::word_at(words, l.a);
-    let b = registers::word_at(words, l.b);
-    let c = registers::word_at(words, l.c);
-    Write::Word(d, video::arithmetic_lanes(op, dtype, sat, l, a, b, c))
+    let a = registers::at(from.words, l.a);
+    let b = registers::at(from.words, l.b);
+    let c = registers::at(from.words, l.c);
+    Write::Word(l.d, video::arithmetic_lanes(op, dtype, sat, l, a, b, c))
 }
 
 // ---- set and setp
 
-fn condition_holds(c: Condition, preds: &[u8]) -> bool
-    ensures { result ≡ condition_holds preds.now c }
+fn condition_holds(from: &Files, c: Condition) -> bool
+    ensures { result ≡ condition_holds from.now.preds c }
 {
-    c.inverted ^ (registers::pred_at(preds, c.pred) == 1)
+    c.inverted ^ (registers::at(from.preds, c.pred) == 1)
 }
 
-fn combined(c: Combination, t: bool, preds: &[u8]) -> bool
-    ensures { result ≡ combined_of preds.now c t }
+#[tactic(auto, unfolding(rules::specs::Executing::combined_of))]
+fn combined(from: &Files, c: Combination, t: bool) -> bool
+    ensures { result ≡ combined_of from.now.preds c t }
 {
     match c {
         Combination::Alone => t,
-        Combination::With(op, p) => compare::bool_op(op, t, condition_holds(p, preds)),
+        Combination::With(op, c) => compare::bool_op(op, t, condition_holds(from, c)),
     }
 }
 
-fn test(target: Target, s: Comparison, words: &[u32], halves: &[u16], doubles: &[u64]) -> bool
-    ensures { result ≡ test_in target words.now halves.now doubles.now s }
+#[tactic(auto, using(crate::proofs::Laws::operand_in_lem), unfolding(crate::specs::Mirror::test_in))]
+fn test(from: &Files, target: Target, s: Comparison) -> bool
+    ensures { result ≡ test_in target from.now s }
 {
-    let op = s.cmp;
-    let t = s.stype;
-    let a = s.a;
-    let b = s.b;
-    let x = operand(a, words, halves, doubles);
-    let y = operand(b, words, halves, doubles);
-    compare::comparison(op, targets::flushes(target, s.ftz), t, x, y)
+    let a = from.operand(s.a);
+    let b = from.operand(s.b);
+    compare::comparison(s.cmp, targets::flushes(target, s.ftz), s.stype, a, b)
 }
 
-fn set_write(
-    target: Target,
-    dtype: SetType,
-    d: Word,
-    s: Comparison,
-    words: &[u32],
-    halves: &[u16],
-    doubles: &[u64],
-    preds: &[u8],
-) -> Write
-    ensures { result ≡ set_write target dtype d s words.now halves.now doubles.now preds.now }
+fn set_write(from: &Files, target: Target, dtype: SetType, d: Word, s: Comparison) -> Write
+    ensures { result ≡ set_write target dtype d s from.now }
 {
-    let combination = s.combination;
-    let t = test(target, s, words, halves, doubles);
+    let t = test(from, target, s);
     Write::Word(
         d,
-        compare::set_value(dtype, combined(combination, t, preds)),
+        compare::set_value(dtype, combined(from, s.combination, t)),
     )
 }
 
-fn setp_write(
-    target: Target,
-    d: Destination,
-    s: Comparison,
-    words: &[u32],
-    halves: &[u16],
-    doubles: &[u64],
-    preds: &[u8],
-) -> Write
-    ensures { result ≡ setp_write target d s words.now halves.now doubles.now preds.now }
+fn setp_write(from: &Files, target: Target, d: Destination, s: Comparison) -> Write
+    ensures { result ≡ setp_write target d s from.now }
 {
-    let combination = s.combination;
-    let t = test(target, s, words, halves, doubles);
-    let first = combined(combination, t, preds);
-    let second = combined(combination, !t, preds);
+    let t = test(from, target, s);
+    let first = combined(from, s.combination, t);
+    let second = combined(from, s.combination, !t);
     Write::Preds(d, first, second)
 }
 
 // ---- selp and slct
 
-fn chosen(first: bool, a: u64, b: u64) -> u64
-    ensures { result ≡ cond first a b }
+#[tactic(auto, using(crate::proofs::Laws::operand_in_lem))]
+fn choice_write(from: &Files, first: bool, s: Choice) -> Write
+    ensures { result ≡ operand_write s.d (either_of first s from.now) }
 {
-    if first { a } else { b }
+    let chosen = if first { s.a } else { s.b };
+    operand_write(s.d, from.operand(chosen))
 }
 
-fn choice_write(first: bool, s: Choice, words: &[u32], halves: &[u16], doubles: &[u64]) -> Write
-    ensures { result ≡ operand_write s.d (either_of first s words.now halves.now doubles.now) }
+fn selp_write(from: &Files, c: Pred, s: Choice) -> Write
+    ensures { result ≡ selp_write c s from.now }
 {
-    let d = s.d;
-    let a = s.a;
-    let b = s.b;
-    let x = operand(a, words, halves, doubles);
-    let y = operand(b, words, halves, doubles);
-    operand_write(d, chosen(first, x, y))
+    choice_write(from, registers::at(from.preds, c) == 1, s)
 }
 
-fn selp_write(
-    c: Pred,
-    s: Choice,
-    words: &[u32],
-    halves: &[u16],
-    doubles: &[u64],
-    preds: &[u8],
-) -> Write
-    ensures { result ≡ selp_write c s words.now halves.now doubles.now preds.now }
-{
-    let first = registers::pred_at(preds, c) == 1;
-    choice_write(first, s, words, halves, doubles)
-}
-
-fn slct_write(
-    target: Target,
-    ctype: SlctType,
-    c: Word,
-    s: Choice,
-    words: &[u32],
-    halves: &[u16],
-    doubles: &[u64],
-) -> Write
-    ensures { result ≡ slct_write target ctype c s words.now halves.now doubles.now }
+fn slct_write(from: &Files, target: Target, ctype: SlctType, c: Word, s: Choice) -> Write
+    ensures { result ≡ slct_write target ctype c s from.now }
 {
     let t = targets::slct_type_at(target, ctype);
-    let first = compare::not_below_zero(t, registers::word_at(words, c));
-    choice_write(first, s, words, halves, doubles)
+    let first = compare::not_below_zero(t, registers::at(from.words, c));
+    choice_write(from, first, s)
 }
 
-// ---- one instruction: all sources are read before any destination is written
+// ---- one instruction
 
-fn write_of(
-    target: Target,
-    r: Record,
-    words: &[u32],
-    halves: &[u16],
-    doubles: &[u64],
-    preds: &[u8],
-) -> Write
-    ensures { result ≡ write_of target r.instruction words.now halves.now doubles.now preds.now }
+#[tactic(auto, unfolding(crate::specs::Mirror::write_of))]
+fn write_of(from: &Files, target: Target, i: Instruction) -> Write
+    ensures { result ≡ write_of target i from.now }
 {
-    let i = r.instruction;
     match i {
         Instruction::Arithmetic {
             op,
             dtype,
             sat,
             scalar,
-        } => arithmetic_write(op, dtype, sat, scalar, words),
-        Instruction::Vset { cmp, scalar } => vset_write(cmp, scalar, words),
-        Instruction::VsetLanes { cmp, lanes } => lanes_write(cmp, lanes, words),
+        } => arithmetic_write(from, op, dtype, sat, scalar),
+        Instruction::Vset { cmp, scalar } => vset_write(from, cmp, scalar),
+        Instruction::VsetLanes { cmp, lanes } => lanes_write(from, cmp, lanes),
         Instruction::ArithmeticLanes {
             op,
             dtype,
             sat,
             lanes,
-        } => arithmetic_lanes_write(op, dtype, sat, lanes, words),
+        } => arithmetic_lanes_write(from, op, dtype, sat, lanes),
         Instruction::Set {
             dtype,
             d,
             comparison,
-        } => set_write(target, dtype, d, comparison, words, halves, doubles, preds),
-        Instruction::Setp { d, comparison } => setp_write(
-            target, d, comparison, words, halves, doubles, preds,
-        ),
-        Instruction::Selp { choice, c } => selp_write(c, choice, words, halves, doubles, preds),
-        Instruction::Slct { ctype, choice, c } => slct_write(
-            target, ctype, c, choice, words, halves, doubles,
-        ),
+        } => set_write(from, target, dtype, d, comparison),
+        Instruction::Setp { d, comparison } => setp_write(from, target, d, comparison),
+        Instruction::Selp { choice, c } => selp_write(from, c, choice),
+        Instruction::Slct { ctype, choice, c } => slct_write(from, target, ctype, c, choice),
     }
 }
 
+// ---- what is looked at before
+
+#[tactic(auto, unfolding(rules::specs::Executing::sizes_fit))]
+fn sizes_fit(from: &Files) -> bool
+    ensures { result ≡ sizes_fit from.now }
+{
+    from.words.len() == record::WORDS as usize
+        && from.halves.len() == record::HALVES as usize
+        && from.doubles.len() == record::DOUBLES as usize
+        && from.preds.len() == record::PREDS as usize
+}
+
+fn preds_fit(from: &Files) -> bool
+    ensures { result ≡ list_all (λ p. nat_le p 1) from.now.preds }
+{
+    from.preds.iter().all(|p| *p <= 1)
+}
+
+#[tactic(auto, unfolding(rules::specs::Executing::guard_holds))]
+fn guard_holds(from: &Files, g: Guard) -> bool
+    ensures { result ≡ guard_holds from.now.preds g }
+{
+    match g {
+        Guard::Always => true,
+        Guard::When(c) => condition_holds(from, c),
+    }
+}
+
+// ---- writing
+
+#[tactic(auto, unfolding(crate::specs::Mirror::preds_with))]
 fn put_destination(d: Destination, first: bool, second: bool, preds: &mut [u8])
     ensures { preds.new ≡ preds_with d first second preds.old }
 {
-    let x = registers::bit_of(first) as u8;
-    let y = registers::bit_of(second) as u8;
+    let first = first as u8;
+    let second = second as u8;
     match d {
-        Destination::One(p) => put_pred(preds, p, x),
+        Destination::One(p) | Destination::First(p) => put(preds, p, first),
         Destination::Pair(p, q) => {
-            put_pred(preds, p, x);
-            put_pred(preds, q, y);
+            put(preds, p, first);
+            put(preds, q, second);
         }
-        Destination::First(p) => put_pred(preds, p, x),
-        Destination::Second(q) => put_pred(preds, q, y),
+        Destination::Second(q) => put(preds, q, second),
     }
 }
 
-fn put(w: Write, words: &mut [u32], halves: &mut [u16], doubles: &mut [u64], preds: &mut [u8])
+#[tactic(auto, unfolding(crate::specs::Mirror::written))]
+fn put_write(w: Write, words: &mut [u32], halves: &mut [u16], doubles: &mut [u64], preds: &mut [u8])
     ensures { files words.new halves.new doubles.new preds.new ≡ written w (files words.old halves.old doubles.old preds.old) }
 {
     match w {
-        Write::Word(d, v) => put_word(words, d, v),
-        Write::Half(d, v) => put_half(halves, d, v),
-        Write::Double(d, v) => put_double(doubles, d, v),
+        Write::Word(d, v) => put(words, d, v),
+        Write::Half(d, v) => put(halves, d, v),
+        Write::Double(d, v) => put(doubles, d, v),
         Write::Preds(d, first, second) => put_destination(d, first, second, preds),
     }
 }
 
 // ---- the entry point
 
-fn sizes_fit(words: &[u32], halves: &[u16], doubles: &[u64], preds: &[u8]) -> bool
-    ensures { result ≡ sizes_fit (files words.now halves.now doubles.now preds.now) }
-{
-    (words.len() == record::WORDS as usize)
-        & (halves.len() == record::HALVES as usize)
-        & (doubles.len() == record::DOUBLES as usize)
-        & (preds.len() == record::PREDS as usize)
-}
-
-fn preds_fit(preds: &[u8]) -> bool
-    ensures { result ≡ preds_fit preds.now }
-{
-    let mut i = 0;
-    while i < preds.len() {
-        if 1 < preds[i] {
-            return false;
-        }
-        i += 1;
-    }
-    true
-}
-
-fn guard_holds(g: Guard, preds: &[u8]) -> bool
-    ensures { result ≡ guard_holds preds.now g }
-{
-    match g {
-        Guard::Always => true,
-        Guard::When(c) => condition_holds(c, preds),
-    }
-}
-
 // Executes the record at a target on the lent files. A refusal or a false guard changes nothing.
+#[tactic(auto, using(crate::proofs::Laws::instruction_written, crate::proofs::Laws::bits_all), unfolding(rules::specs::Executing::run),)]
 pub fn execute(
     target: Target,
     r: Record,
@@ -404,22 +301,27 @@ pub fn execute(
     halves: &mut [u16],
     doubles: &mut [u64],
     preds: &mut [u8],
-) -> Executed
+) -> Result<Executed, Refusal>
     ensures { outcome (answer_of result) (files words.new halves.new doubles.new preds.new) ≡ run target r (files words.old halves.old doubles.old preds.old) }
 {
-    let g = r.guard;
-    let illegal = !legal::legal(r);
-    let not_allowed = !targets::allows(target, r);
-    let wrong_sizes = !sizes_fit(words, halves, doubles, preds);
-    let wrong_preds = !preds_fit(preds);
-    let n = refusals::executing(illegal, not_allowed, wrong_sizes, wrong_preds);
-    if n != 0 {
-        return Executed::Refused(n);
+    let from = Files {
+        words,
+        halves,
+        doubles,
+        preds,
+    };
+    if let Some(refusal) = refusals::executing(
+        !legal::legal(r),
+        !targets::allows(target, r),
+        !sizes_fit(&from),
+        !preds_fit(&from),
+    ) {
+        return Err(refusal);
     }
-    if !guard_holds(g, preds) {
-        return Executed::Skipped;
+    if !guard_holds(&from, r.guard) {
+        return Ok(Executed::Skipped);
     }
-    let w = write_of(target, r, words, halves, doubles, preds);
-    put(w, words, halves, doubles, preds);
-    Executed::Done
+    let w = write_of(&from, target, r.instruction);
+    put_write(w, words, halves, doubles, preds);
+    Ok(Executed::Done)
 }

@@ -6,15 +6,27 @@ use Rattle.base.specs.Pack.{radix, unpacked, spelled, NumberSpells}
 use Rattle.base.specs.PackLaws.{unpacked_none, text_of_lem, text_more, spells_more, spells_written}
 use Rattle.record.specs.declared.Choice.{Choice}
 use Rattle.record.specs.declared.Cmp6.{Cmp6}
+use Rattle.record.specs.declared.Comparison.{Comparison}
 use Rattle.record.specs.declared.Condition.{Condition}
+use Rattle.record.specs.declared.File.{File}
+use Rattle.record.specs.declared.File.TheVariants.{Words, Halves, Doubles, Preds}
 use Rattle.record.specs.declared.Guard.TheVariants.{When}
 use Rattle.record.specs.declared.VideoType.{VideoType}
 use Rattle.record.specs.Registers.{operand_place, p}
 use Rattle.rules.specs.Shape.{Name, dotted, head_text, register_text, spot_text, OperandTree, inverted, pair, bare, part, operand_text, guard_text}
-use Rattle.rules.specs.Names.{video_type_name, six_name, braced}
+use Rattle.rules.specs.Names.{video_type_name, type_name, six_name, cmp_name, combination_names, braced}
 use Rattle.rules.specs.Spelling.{condition_tree}
 use Rattle.rules.specs.StandardLine.{guard_part, further}
 use Rattle.write.specs.declared.Piece.{Piece}
+
+-- ==== registers
+
+-- the most bytes that a register of the file has in a line: `%` and its letters, and three digits
+abbrev pub text_size : File → ℕ
+text_size Words = 5
+text_size Halves = 6
+text_size Doubles = 6
+text_size Preds = 5
 
 -- ==== guards
 
@@ -94,6 +106,13 @@ pub record ThreeTypes (x : ℕ) (dtype atype btype : VideoType) (sat : Bool) (la
 pub record TwoTypes (x : ℕ) (atype btype : VideoType) (cmp : Cmp6) (last : ℕ) (m : List ℕ) : Type 0 where
   pub head : {k : ℕ} {w : Name} {ms : List Name} → NumberSpells k x w → Optional last ms
       → spelled m ≡ head_text (w ∷ video_type_name atype ∷ video_type_name btype ∷ six_name cmp ∷ ms)
+
+-- CmpOp {BoolOp} {ftz} and stype behind the opcode x, and before stype a dtype that may be left out
+pub record ComparisonHead (x dtype : ℕ) (s : Comparison) (m : List ℕ) : Type 0 where
+  pub head : {k : ℕ} {w : Name} {ms : List Name} → NumberSpells k x w → Optional dtype ms
+      → spelled m
+      ≡ head_text
+      (w ∷ cmp_name s.cmp ∷ (combination_names s.combination ++ braced s.ftz (bytes "ftz") ++ (ms ++ type_name s.stype ∷ [])))
 
 -- ==== operands
 

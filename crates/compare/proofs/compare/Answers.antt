@@ -1,68 +1,21 @@
 use Rattle.compare.specs.Mirror.{compared_hold}
+use Rattle.compare.proofs.Laws.{float_by_is}
 use Rattle.compare.proofs.compare.Goals as goal
 
-pub returns-in-Whole-y : goal.returns-in-Whole-y
+pub returns-in-Single-Single : goal.returns-in-Single-Single
 unfolding compared_hold
-returns-in-Whole-y c = simp (
-  c.wholes.ensures,
-  c.in-Whole-y.is,
-  c.in-Whole.is,
+returns-in-Single-Single c = simp (
+  c.floats_hold.ensures,
+  c.in-Single-Single.is-0,
+  c.in-Single-Single.is-1,
+  float_by_is,
 )
 
-pub returns-in-Single-y : goal.returns-in-Single-y
+pub returns-in-Double-Double : goal.returns-in-Double-Double
 unfolding compared_hold
-returns-in-Single-y c = simp (
-  c.in-Single-y.is,
-  c.in-Whole.is,
-)
-
-pub returns-in-Double-y : goal.returns-in-Double-y
-unfolding compared_hold
-returns-in-Double-y c = simp (
-  c.in-Double-y.is,
-  c.in-Whole.is,
-)
-
-pub returns-in-Whole-y-2 : goal.returns-in-Whole-y-2
-unfolding compared_hold
-returns-in-Whole-y-2 c = simp (
-  c.in-Whole-y-2.is,
-  c.in-Single.is,
-)
-
-pub returns-in-Single-y-2 : goal.returns-in-Single-y-2
-unfolding compared_hold
-returns-in-Single-y-2 c = simp (
-  c.singles.ensures,
-  c.in-Single-y-2.is,
-  c.in-Single.is,
-)
-
-pub returns-in-Double-y-2 : goal.returns-in-Double-y-2
-unfolding compared_hold
-returns-in-Double-y-2 c = simp (
-  c.in-Double-y-2.is,
-  c.in-Single.is,
-)
-
-pub returns-in-Whole-y-3 : goal.returns-in-Whole-y-3
-unfolding compared_hold
-returns-in-Whole-y-3 c = simp (
-  c.in-Whole-y-3.is,
-  c.in-Double.is,
-)
-
-pub returns-in-Single-y-3 : goal.returns-in-Single-y-3
-unfolding compared_hold
-returns-in-Single-y-3 c = simp (
-  c.in-Single-y-3.is,
-  c.in-Double.is,
-)
-
-pub returns-in-Double-y-3 : goal.returns-in-Double-y-3
-unfolding compared_hold
-returns-in-Double-y-3 c = simp (
-  c.doubles.ensures,
-  c.in-Double-y-3.is,
-  c.in-Double.is,
+returns-in-Double-Double c = simp (
+  c.floats_hold-in-Double-Double.ensures,
+  c.in-Double-Double.is-0,
+  c.in-Double-Double.is-1,
+  float_by_is,
 )

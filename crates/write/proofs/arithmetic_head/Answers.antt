@@ -1,4 +1,4 @@
 use Rattle.write.proofs.arithmetic_head.Goals as goal
 
 pub returns : goal.returns
-returns c = c.three_types.ensures.head c.arith_number-opcode.ensures c.form_modifier.ensures
+returns c = c.three_types.ensures.head c.arith_number.ensures c.form_modifier.ensures

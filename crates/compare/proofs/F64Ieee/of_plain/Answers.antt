@@ -1,0 +1,6 @@
+use Rattle.std.proofs.Common.{rules}
+use Rattle.std.proofs.lemmas.Float.{not_nan_f64_bits}
+use Rattle.compare.proofs.F64Ieee.of_plain.Goals as goal
+
+pub float_from_bits-result : goal.float_from_bits-result
+float_from_bits-result c = not_nan_f64_bits _ (search rules)

@@ -1,5 +1,0 @@
-use Rattle.compare.proofs.Laws.{nan_is}
-use Rattle.compare.proofs.nan_double.Goals as goal
-
-pub returns : goal.returns
-returns c = nan_is c.args.x
