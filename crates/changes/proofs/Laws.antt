@@ -1,20 +1,20 @@
 -- What the proofs of this crate share: the pieces of a register's text, and how long they are. Assumes nothing.
-use Prim.Native.Nat.{ℕ, zero, suc, ◌+◌, ◌*◌, ◌/◌, ◌≤◌, ◌<◌}
+use Prim.Native.Nat.{ℕ, zero, suc, ◌*◌, ◌/◌, ◌≤◌, ◌<◌}
 use native.Mathlib.Decide.{dec_lt}
-use native.Mathlib.Numerals.{add-one}
 use native.Mathlib.Omega.{arith}
-use mathlib.Core.Path.{◌≡◌, refl, sym, ap, ap₂, ◌∙◌}
+use mathlib.Core.Path.{◌≡◌, refl, ap, ap₂, subst, ◌∙◌}
 use mathlib.Core.Bool.{Bool, true, false, cond}
-use mathlib.Core.List.{List, [], ◌∷◌, ◌++◌, append-nil}
-use lib.ListN.{length, drop, get_or, set, length-append, drop_of_length-le}
-use lib.Seq.{drop-cons, set_at, append_snoc}
+use mathlib.Core.List.{List, [], ◌∷◌, ◌++◌}
+use lib.ListN.{length, get_or, length-append}
 use lib.Dec.{ltb, eqb}
 use borrow.Author.Tests.{lt-ltb, le-ltb}
 use Rattle.signs.specs.Lists.{tab}
 use Rattle.signs.specs.Text.{bytes}
 use Rattle.record.specs.Registers.{word_count, half_count, double_count, pred_count, count_of, Files, reg, at}
 use Rattle.rules.specs.Shape.{digit, number_text, file_text, register_text}
-use Rattle.text.specs.Buffer.{Buffer, buffer, filled, Puts, whole_front}
+use Rattle.text.specs.Buffer.{buffer, Puts, whole_front}
+use Rattle.text.specs.Out.{Writes}
+use Rattle.text.specs.declared.Out.{Out}
 use Rattle.signs.specs.Digits.{decimal, hex}
 use Rattle.text.specs.DigitLaws.{one_digit, more_digits, hex_length}
 use Rattle.signs.specs.Bytes.{line_feed}
@@ -45,14 +45,13 @@ below_100 Halves k h = omega arith
 below_100 Doubles k h = omega arith
 below_100 Preds k h = omega arith
 
-pub value_put : {d : ℕ} {x y : Buffer} (file : File) (k v : ℕ) → k < 100 → d ≡ digits_of file
-    → Puts x (file_text file ++ decimal k ++ bytes " " ++ hex d v ++ (line_feed ∷ [])) y → Puts x (value_text (reg file k) v) y
+pub value_put : {d : ℕ} {x y : Out} (file : File) (k v : ℕ) → k < 100 → d ≡ digits_of file
+    → Writes x (file_text file ++ decimal k ++ bytes " " ++ hex d v ++ (line_feed ∷ [])) y → Writes x (value_text (reg file k) v) y
 value_put {d} {x} {y} file k v h e a =
-    record {
-      text = a.text
-          ∙ ap (λ (t : List ℕ). filled x (t ++ bytes " " ++ hex d v ++ (line_feed ∷ []))) (register_text_lem file k h)
-          ∙ ap (λ (m : ℕ). filled x (register_text (reg file k) ++ bytes " " ++ hex m v ++ (line_feed ∷ []))) e;
-    }
+    let t : file_text file ++ decimal k ++ bytes " " ++ hex d v ++ (line_feed ∷ []) ≡ value_text (reg file k) v =
+    ap (λ (t : List ℕ). t ++ bytes " " ++ hex d v ++ (line_feed ∷ [])) (register_text_lem file k h)
+    ∙ ap (λ (m : ℕ). register_text (reg file k) ++ bytes " " ++ hex m v ++ (line_feed ∷ [])) e in
+    subst (λ (t : List ℕ). Writes x t y) t a
 
 -- ==== all registers
 
@@ -99,23 +98,9 @@ registers_printed f {out} {after} {n} h p =
 
 -- ==== the registers at the start
 
-tab_more : (k : ℕ) (f : ℕ → ℕ) → tab (suc k) f ≡ tab k f ++ (f k ∷ [])
-tab_more zero f = refl
-tab_more (suc k) f = ap (◌∷◌ (f 0)) (tab_more k (λ i. f (suc i)))
-
-tab_length : (k : ℕ) (f : ℕ → ℕ) → length (tab k f) ≡ k
-tab_length zero f = refl
-tab_length (suc k) f = ap suc (tab_length k (λ i. f (suc i)))
-
--- the first k registers of a file are set, the others are as they were
-pub set_more : (f : ℕ → ℕ) (start file : List ℕ) (k : ℕ) → k < length start → file ≡ tab k f ++ drop k start
-    → set file k (f k) ≡ tab (k + 1) f ++ drop (k + 1) start
-set_more f start file k h e =
-    let t : tab (k + 1) f ≡ tab k f ++ (f k ∷ []) = ap (λ (n : ℕ). tab n f) (add-one k) ∙ tab_more k f in
-    ap (λ (l : List ℕ). set l k (f k)) (e ∙ ap (λ (l : List ℕ). tab k f ++ l) (drop-cons start k 0 h))
-    ∙ set_at (tab k f) (get_or start k 0) (drop (suc k) start) (f k) k (tab_length k f)
-    ∙ sym (append_snoc (tab k f) (f k) (drop (suc k) start))
-    ∙ ap₂ (λ (l m : List ℕ). l ++ m) (sym t) (ap (λ (n : ℕ). drop n start) (sym (add-one k)))
-
-pub set_all : (f : ℕ → ℕ) (start file : List ℕ) (k : ℕ) → length start ≤ k → file ≡ tab k f ++ drop k start → file ≡ tab k f
-set_all f start file k h e = e ∙ rw (drop_of_length-le start h) (append-nil (tab k f))
+-- a list whose places are known
+pub tabbed : (n : ℕ) (f : ℕ → ℕ) (l : List ℕ) → length l ≡ n → ((i : ℕ) → i < n → get_or l i 0 ≡ f i) → l ≡ tab n f
+tabbed zero f [] e h = refl
+tabbed zero f (x ∷ l) e h = absurd (omega arith)
+tabbed (suc n) f [] e h = absurd (omega arith)
+tabbed (suc n) f (x ∷ l) e h = ap₂ ◌∷◌ (h 0 (omega arith)) (tabbed n (λ i. f (suc i)) l (omega arith) (λ i b. h (suc i) (omega arith)))

@@ -1,6 +1,6 @@
 -- No two outcomes satisfy a contract as it stands in src/lib.rt.
+use Rattle.std.specs.Prelude.{Option, ℕ}
 use Rattle.changes.specs.Registers.{PrintOutcome, answers_one}
-use Rattle.changes.specs.declared.Printed.{Printed}
 use Rattle.base.specs.Promise.{one_outcome}
 use mathlib.Core.Path.{ap, ◌≡◌}
 use denote.Triple.Clauses.{AtExit}
@@ -20,7 +20,7 @@ use Rattle.changes.proofs.start_words.Kinds as start-words-kinds
 use Rattle.changes.proofs.start_words.Reads as start-words
 
 pub registers_one_outcome :
-    (κs : Lfts 5) (a : Dens κs registers-kinds.ps) (x y : Printed) (s t : AtExit (ended_of 5 registers-kinds.ps registers-kinds.r) κs)
+    (κs : Lfts 5) (a : Dens κs registers-kinds.ps) (x y : Option ℕ) (s t : AtExit (ended_of 5 registers-kinds.ps registers-kinds.r) κs)
     → registers.Post κs a x s → registers.Post κs a y t
     → (x ≡ y) × (s.1.1.1.1.0.now ≡ t.1.1.1.1.0.now)
 registers_one_outcome κs a x y s t p q =

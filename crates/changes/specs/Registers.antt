@@ -1,10 +1,8 @@
 -- What `registers` answers, and how long a buffer it takes.
-use Rattle.std.specs.Prelude.{ℕ, ◌+◌, ◌*◌, ◌≡◌, refl, cond, List, length, ltb}
+use Rattle.std.specs.Prelude.{ℕ, ◌+◌, ◌*◌, ◌≡◌, refl, cond, List, length, ltb, Option, Some, None}
 use Rattle.record.specs.Registers.{word_count, half_count, double_count, pred_count, Files}
 use Rattle.rules.specs.Writing.{front}
 use Rattle.changes.specs.Changes.{registers_text}
-use Rattle.changes.specs.declared.Printed.{Printed}
-use Rattle.changes.specs.declared.Printed.TheVariants.{Length, NoRoom}
 
 -- as many bytes as the text of a register has at most: `%rd31`, a space, 16 digits, a line feed; and those of all
 abbrev pub value_room : ℕ
@@ -28,13 +26,13 @@ print_outcome a b = record { answer = a; buffer = b }
 unfoldable pub printing : Files → List ℕ → PrintOutcome
 printing f out = cond (ltb (length out) registers_room) (print_outcome no_room out) (print_outcome (printed_bytes (length (registers_text f))) (front (registers_text f) out))
 
-abbrev pub answer_of : Printed → PrintAnswer
-answer_of (Length n) = printed_bytes n
-answer_of NoRoom = no_room
+abbrev pub answer_of : Option ℕ → PrintAnswer
+answer_of (Some n) = printed_bytes n
+answer_of None = no_room
 
 -- one to one: no two answers say the same
-pub answers_one : (x y : Printed) → answer_of x ≡ answer_of y → x ≡ y
-answers_one (Length m) (Length n) e = cc
-answers_one (Length m) NoRoom e = cc
-answers_one NoRoom (Length n) e = cc
-answers_one NoRoom NoRoom e = refl
+pub answers_one : (x y : Option ℕ) → answer_of x ≡ answer_of y → x ≡ y
+answers_one (Some m) (Some n) e = cc
+answers_one (Some m) None e = cc
+answers_one None (Some n) e = cc
+answers_one None None e = refl

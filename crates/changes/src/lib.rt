@@ -2,14 +2,16 @@
 #![tactic(auto)]
 
 ghost use Rattle.std.specs.Prelude.{◌≡◌, ◌<◌};
-ghost use Rattle.record.specs.Registers.{word_count, count_of, word, reg, files};
-ghost use Rattle.record.specs.Registers as held;
+ghost use Rattle.record.specs.Registers.{word_count, half_count, count_of, word, reg, files};
 ghost use Rattle.rules.specs.Shape.{file_text};
-ghost use Rattle.text.specs.Buffer.{buffer, Puts};
+ghost use Rattle.text.specs.Out.{Writes};
 ghost use Rattle.changes.specs.Changes.{start_value, start_files, digits_of, value_text, change_text, file_changes};
 ghost use Rattle.changes.specs.Registers.{answer_of, print_outcome, printing};
 
-use record::{Double, File, Half, Pred, Word};
+use record::File;
+use registers::Files;
+use std::array;
+use text::Out;
 
 // As many bytes as the texts of all registers have at most.
 const REGISTERS_ROOM: usize = 3312;
@@ -28,13 +30,6 @@ const PREDS: usize = record::PREDS as usize;
 // At the start word N is N times this.
 const ONES: u32 = 0x0101_0101;
 
-// How many bytes of the lent buffer were used, or that it is too short.
-#[derive(Clone, Copy)]
-pub enum Printed {
-    Length(usize),
-    NoRoom,
-}
-
 fn start_word(n: usize) -> u32
     requires { n < word_count }
     ensures { result ≡ start_value (word n) }
@@ -46,56 +41,38 @@ fn start_word(n: usize) -> u32
 pub fn start_words() -> [u32; WORDS]
     ensures { result ≡ start_files.words }
 {
-    let mut words = [0u32; WORDS];
-    let mut k = 0;
-    while k < WORDS {
-        words[k] = start_word(k);
-        k += 1;
-    }
-    words
+    array::from_fn(start_word)
 }
 
 pub fn start_halves() -> [u16; HALVES]
     ensures { result ≡ start_files.halves }
 {
-    let mut halves = [0u16; HALVES];
-    let mut k = 0;
-    while k < HALVES {
-        halves[k] = k as u16;
-        k += 1;
-    }
-    halves
+    array::from_fn(
+        |k|
+            requires { k < half_count }
+            ensures { result ≡ k }
+        { k as u16 },
+    )
 }
 
 pub fn start_doubles() -> [u64; DOUBLES]
     ensures { result ≡ start_files.doubles }
 {
-    let mut doubles = [0u64; DOUBLES];
-    let mut k = 0;
-    while k < DOUBLES {
-        doubles[k] = k as u64;
-        k += 1;
-    }
-    doubles
+    array::from_fn(
+        |k|
+            ensures { result ≡ k }
+        { k as u64 },
+    )
 }
 
+// Not one with the other three, which is no plainer: type, length and value differ, and they share array::from_fn.
 pub fn start_preds() -> [u8; PREDS]
     ensures { result ≡ start_files.preds }
 {
     [0u8; PREDS]
 }
 
-fn count(file: File) -> usize
-    ensures { result ≡ count_of file }
-{
-    match file {
-        File::Words => WORDS,
-        File::Halves => HALVES,
-        File::Doubles => DOUBLES,
-        File::Preds => PREDS,
-    }
-}
-
+// A number for each file, as `digits_of` has it: no step is chosen.
 fn digits(file: File) -> u8
     ensures { result ≡ digits_of file }
 {
@@ -107,100 +84,79 @@ fn digits(file: File) -> u8
     }
 }
 
-fn start_value(file: File, k: usize) -> u64
+fn start_value(file: File, k: u16) -> u64
     requires { k < count_of file }
     ensures { result ≡ start_value (reg file k) }
 {
     match file {
-        File::Words => start_word(k) as u64,
-        File::Halves => k as u64,
-        File::Doubles => k as u64,
+        File::Words => start_word(k as usize) as u64,
+        File::Halves | File::Doubles => k as u64,
         File::Preds => 0,
     }
 }
 
-fn value(file: File, k: usize, words: &[u32], halves: &[u16], doubles: &[u64], preds: &[u8]) -> u64
-    requires { k < count_of file }
-    ensures { result ≡ held.at (files words.now halves.now doubles.now preds.now) (reg file k) }
+fn put_prefix(out: &mut Out, file: File)
+    ensures { Writes out.old (file_text file) out.new }
 {
     match file {
-        File::Words => registers::word_at(words, Word(k as u16)) as u64,
-        File::Halves => registers::half_at(halves, Half(k as u16)) as u64,
-        File::Doubles => registers::double_at(doubles, Double(k as u16)),
-        File::Preds => registers::pred_at(preds, Pred(k as u16)) as u64,
+        File::Words => out.put(b"%r"),
+        File::Halves => out.put(b"%rs"),
+        File::Doubles => out.put(b"%rd"),
+        File::Preds => out.put(b"%p"),
     }
 }
 
-fn put_prefix(out: &mut [u8], at: usize, file: File) -> usize
-    ensures { Puts (buffer out.old at) (file_text file) (buffer out.new result) }
-{
-    match file {
-        File::Words => text::put(out, at, b"%r"),
-        File::Halves => text::put(out, at, b"%rs"),
-        File::Doubles => text::put(out, at, b"%rd"),
-        File::Preds => text::put(out, at, b"%p"),
-    }
-}
-
-fn put_value(out: &mut [u8], at: usize, file: File, k: usize, x: u64) -> usize
+fn put_value(out: &mut Out, file: File, k: u16, x: u64)
     requires { k < 100 }
-    ensures { Puts (buffer out.old at) (value_text (reg file k) x) (buffer out.new result) }
+    ensures { Writes out.old (value_text (reg file k) x) out.new }
 {
-    let at1 = put_prefix(out, at, file);
-    let at2 = text::put_decimal(out, at1, k as u64);
-    let at3 = text::push(out, at2, b' ');
-    let at4 = text::put_hex(out, at3, x, digits(file));
-    text::push(out, at4, LINE_FEED)
+    put_prefix(out, file);
+    out.put_decimal(k as u64);
+    out.push(b' ');
+    out.put_hex(x, digits(file));
+    out.push(LINE_FEED);
 }
 
-fn put_change(out: &mut [u8], at: usize, file: File, k: usize, x: u64) -> usize
+fn put_change(out: &mut Out, file: File, k: u16, x: u64)
     requires { k < count_of file }
-    ensures { Puts (buffer out.old at) (change_text (reg file k) x) (buffer out.new result) }
+    ensures { Writes out.old (change_text (reg file k) x) out.new }
 {
-    if x == start_value(file, k) {
-        return at;
+    if x != start_value(file, k) {
+        put_value(out, file, k, x);
     }
-    put_value(out, at, file, k, x)
 }
 
-fn put_file(
-    out: &mut [u8],
-    at: usize,
-    file: File,
-    words: &[u32],
-    halves: &[u16],
-    doubles: &[u64],
-    preds: &[u8],
-) -> usize
-    ensures { Puts (buffer out.old at) (file_changes file (files words.now halves.now doubles.now preds.now)) (buffer out.new result) }
+fn put_file(out: &mut Out, file: File, files: &Files)
+    ensures { Writes out.old (file_changes file files.now) out.new }
 {
-    let size = count(file);
-    let mut next = at;
-    let mut k = 0;
-    while k < size {
-        let x = value(file, k, words, halves, doubles, preds);
-        next = put_change(out, next, file, k, x);
-        k += 1;
+    for k in 0..file.size() {
+        put_change(out, file, k, files.value(file, k));
     }
-    next
 }
 
-// The registers whose value differs from the start.
+// The registers whose value differs from the start, and how many bytes their texts have; nothing where the lent buffer is too short.
 pub fn registers(
     words: &[u32],
     halves: &[u16],
     doubles: &[u64],
     preds: &[u8],
     out: &mut [u8],
-) -> Printed
+) -> Option<usize>
     ensures { print_outcome (answer_of result) out.new ≡ printing (files words.now halves.now doubles.now preds.now) out.old }
 {
     if out.len() < REGISTERS_ROOM {
-        return Printed::NoRoom;
+        return None;
     }
-    let at1 = put_file(out, 0, File::Words, words, halves, doubles, preds);
-    let at2 = put_file(out, at1, File::Halves, words, halves, doubles, preds);
-    let at3 = put_file(out, at2, File::Doubles, words, halves, doubles, preds);
-    let at4 = put_file(out, at3, File::Preds, words, halves, doubles, preds);
-    Printed::Length(at4)
+    let files = Files {
+        words,
+        halves,
+        doubles,
+        preds,
+    };
+    let mut print = Out::new(out);
+    put_file(&mut print, File::Words, &files);
+    put_file(&mut print, File::Halves, &files);
+    put_file(&mut print, File::Doubles, &files);
+    put_file(&mut print, File::Preds, &files);
+    Some(print.place())
 }

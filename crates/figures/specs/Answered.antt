@@ -32,7 +32,7 @@ use Rattle.shape.specs.Guard.{guard_of, guard_by}
 use Rattle.shape.specs.Head.{head_of, name_turn, name_by, pushed_name}
 use Rattle.shape.specs.Operand.{operand_scanned, inverted_by, first_of, after_by, part_of, second_of, second_by}
 use Rattle.shape.specs.Operands.{operands_scanned, operand_turn, operand_by, divided_by, divider_of, divider_by, pushed_tree}
-use Rattle.shape.specs.Line.{shape_of, guarded_by, from_head, from_gap, from_operands, from_end, stopped_at}
+use Rattle.shape.specs.Line.{shape_of, from_head, from_gap, from_operands, from_end}
 use Rattle.names.specs.Back.{opcode_of, video_of, set_type_of, type_of, six_of, cmp_of, bool_op_of, op2_of, selector_of}
 use Rattle.heads.specs.Rows.{row_of, row_by, found_of, read_of as read_head, name_at, whole_of, sides_at, sides_by, head_compared, compared_by, typed_of, typed_by, ending_at, ending_by, arithmetic_row, arithmetic_typed, arithmetic_by, vset_row, vset_by, vset_lanes_row, vset_lanes_by, lane_arithmetic_row, lane_arithmetic_typed, lane_arithmetic_by, tested_of, tested_by, test_at, set_row, set_tested, set_at, set_by, setp_row, setp_tested, setp_at, setp_by, selp_row, selp_by, slct_row, slct_at, slct_by}
 use Rattle.heads.specs.Tables.{slct_type_of}
@@ -429,7 +429,7 @@ pub answered_computed :
     × (map (λ (x : Listing). leb (length x.lines) listing_limit) listings ≡ map (λ (x : Listing). true) listings)
     × (map (λ (x : Question). last_of own_answer x.listing x.register) questions ≡ map (λ (x : Question). x.answer) questions)
     × (map (λ (x : Shown). lasttext.computed x.listing x.register) shown ≡ map (λ (x : Shown). x.text) shown)
-unfolding questions shown last_of last_in length_to feeds_in listings lines_with printed_line turns_text turns_files registers_text changes_text change_text start_files hex decimal decimal_in standard run is_legal sizes_fit preds_fit guard_holds after writes arithmetic_of form_of selected_of exact_of lanes_of lane_holds holds_z combined_of test_of comparison_of value_of lt eq is_nan of_bits of_fields odd answered read_of allows passes lanes_against_itself refused_by verdict_of place_of parts_place_of modifier_place_of guard_place_of legal_place_of operand_index_of row_place_of row.guess_of begins_row row.tried row.completed row.entry is_row operand_place_of fill.guess_of begins_filled fill.tried fill.completed fill.entry is_filled turns_at searched shape_place_of wrong_from step register digits follow ends named head_at guard_end name_from operands_at operand_from next_at next_of next_by bar_at over_at candidate_of shape_of guarded_by guard_of guard_by from_head head_of turns name_turn name_by pushed_name from_gap from_operands operands_scanned operand_turn operand_by operand_scanned inverted_by first_of after_by part_of second_of second_by divided_by divider_of divider_by pushed_tree from_end stopped_at register_of register_by prefix_by register_from number_found number_by capped_sum code_of row_of row_by found_of read_head name_at whole_of sides_at sides_by head_compared compared_by typed_of typed_by ending_at ending_by arithmetic_row arithmetic_typed arithmetic_by vset_row vset_by vset_lanes_row vset_lanes_by lane_arithmetic_row lane_arithmetic_typed lane_arithmetic_by tested_of tested_by test_at set_row set_tested set_at set_by setp_row setp_tested setp_at setp_by selp_row selp_by slct_row slct_at slct_by slct_type_of opcode_of video_of set_type_of selector_of type_of six_of cmp_of bool_op_of op2_of mask_of falling digits_named digits_in filled_of tree_at scalar_from lanes_from comparison_from choice_from
+unfolding questions shown last_of last_in length_to feeds_in listings lines_with printed_line turns_text turns_files registers_text changes_text change_text start_files hex decimal decimal_in standard run is_legal sizes_fit preds_fit guard_holds after writes arithmetic_of form_of selected_of exact_of lanes_of lane_holds holds_z combined_of test_of comparison_of value_of lt eq is_nan of_bits of_fields odd answered read_of allows passes lanes_against_itself refused_by verdict_of place_of parts_place_of modifier_place_of guard_place_of legal_place_of operand_index_of row_place_of row.guess_of begins_row row.tried row.completed row.entry is_row operand_place_of fill.guess_of begins_filled fill.tried fill.completed fill.entry is_filled turns_at searched shape_place_of wrong_from step register digits follow ends named head_at guard_end name_from operands_at operand_from next_at next_of next_by bar_at over_at candidate_of shape_of guard_of guard_by from_head head_of turns name_turn name_by pushed_name from_gap from_operands operands_scanned operand_turn operand_by operand_scanned inverted_by first_of after_by part_of second_of second_by divided_by divider_of divider_by pushed_tree from_end register_of register_by prefix_by register_from number_found number_by capped_sum code_of row_of row_by found_of read_head name_at whole_of sides_at sides_by head_compared compared_by typed_of typed_by ending_at ending_by arithmetic_row arithmetic_typed arithmetic_by vset_row vset_by vset_lanes_row vset_lanes_by lane_arithmetic_row lane_arithmetic_typed lane_arithmetic_by tested_of tested_by test_at set_row set_tested set_at set_by setp_row setp_tested setp_at setp_by selp_row selp_by slct_row slct_at slct_by slct_type_of opcode_of video_of set_type_of selector_of type_of six_of cmp_of bool_op_of op2_of mask_of falling digits_named digits_in filled_of tree_at scalar_from lanes_from comparison_from choice_from
 answered_computed = (refl, refl, refl, refl, refl)
 
 -- the grammar gives each line of a list the answer beside it

@@ -1,5 +1,5 @@
 -- Document 02, T-11, "Who wrote this last": which line of a listing last has a given `%r` as destination, by a full reading from the front.
-use Rattle.std.specs.Prelude.{ℕ, ◌+◌, ◌-◌, ◌≡◌, refl, Bool, false, ◌||◌, cond, List, [], ◌∷◌, length, eqb, ltb, leb}
+use Rattle.std.specs.Prelude.{ℕ, ◌+◌, ◌-◌, ◌≡◌, refl, Bool, false, ◌||◌, cond, List, [], ◌∷◌, length, eqb, ltb, leb, Some, None, Result, Ok, Err}
 use Rattle.std.proofs.Math.Option.{Option, none, some}
 use Rattle.record.specs.Registers.{Place, reg, word_count}
 use Rattle.record.specs.declared.File.TheVariants.{Words, Halves, Doubles, Preds}
@@ -9,8 +9,10 @@ use Rattle.rules.specs.Executing.{destinations}
 use Rattle.rules.specs.Reading.{Answers, read, refused, refused_at}
 use Rattle.rules.specs.Reading as reading
 use Rattle.lines.specs.Lines.{listing_limit, lines_of}
-use Rattle.last.specs.declared.Last.{Last}
-use Rattle.last.specs.declared.Last.TheVariants.{Distance, Nowhere, Refused}
+use Rattle.std.specs.declared.option.Option.{Option as Found}
+use Rattle.std.proofs.Common.{ap, sym}
+use Rattle.refusals.specs.declared.Refusal.{Refusal}
+use Rattle.refusals.specs.Numbers.{number_of, numbers_one}
 
 -- ==== a line
 
@@ -73,19 +75,27 @@ abbrev pub ByFullReading : List ℕ → ℕ → Answer → Type 0
 ByFullReading s n a = (answer : List ℕ → reading.Answer) → FullReading answer → a ≡ last_of answer s n
 
 -- what each answer of `last_writer` says in these words and numbers
-abbrev pub answer_of : Last → Answer
-answer_of (Distance d) = distance d
-answer_of Nowhere = none_has
-answer_of (Refused k) = refused_by k
+abbrev pub distance_of : Found ℕ → Answer
+distance_of (Some d) = distance d
+distance_of None = none_has
+
+abbrev pub answer_of : Result (Found ℕ) Refusal → Answer
+answer_of (Ok d) = distance_of d
+answer_of (Err r) = refused_by (number_of r)
 
 -- one to one: no two answers say the same
-pub answers_one : (x y : Last) → answer_of x ≡ answer_of y → x ≡ y
-answers_one (Distance m) (Distance n) e = cc
-answers_one (Distance m) Nowhere e = cc
-answers_one (Distance m) (Refused n) e = cc
-answers_one Nowhere (Distance n) e = cc
-answers_one Nowhere Nowhere e = refl
-answers_one Nowhere (Refused n) e = cc
-answers_one (Refused m) (Distance n) e = cc
-answers_one (Refused m) Nowhere e = cc
-answers_one (Refused m) (Refused n) e = cc
+distances_one : (x y : Found ℕ) → distance_of x ≡ distance_of y → x ≡ y
+distances_one (Some m) (Some n) e = cc
+distances_one (Some m) None e = cc
+distances_one None (Some n) e = cc
+distances_one None None e = refl
+
+not_refused : {A : Type 0} (x : Found ℕ) (n : ℕ) → distance_of x ≡ refused_by n → A
+not_refused (Some m) n e = cc
+not_refused None n e = cc
+
+pub answers_one : (x y : Result (Found ℕ) Refusal) → answer_of x ≡ answer_of y → x ≡ y
+answers_one (Ok x) (Ok y) e = ap Ok (distances_one x y e)
+answers_one (Ok x) (Err n) e = not_refused x _ e
+answers_one (Err m) (Ok y) e = not_refused y _ (sym e)
+answers_one (Err m) (Err n) e = ap Err (numbers_one m n cc)

@@ -3,33 +3,18 @@
 #![tactic(auto)]
 
 ghost use Rattle.std.specs.Prelude.{◌≡◌, [], ◌∷◌, ◌≤◌, ◌<◌, length};
-ghost use Rattle.record.specs.Registers.{r, operand_place};
-ghost use Rattle.rules.specs.Executing.{form_d, destination_places, destinations};
-ghost use Rattle.last.specs.Last.{has_word, told, ByFullReading, answer_of};
+ghost use Rattle.record.specs.Registers.{operand_place};
+ghost use Rattle.rules.specs.Executing.{form_d, destinations};
+ghost use Rattle.last.specs.Last.{has_word, told, ByFullReading, distance_of, answer_of};
 ghost use Rattle.last.specs.Back.{own_has, line_end, line_start, line_back, goes_on, found_at, last_beyond};
 
-use read::Reading;
-use record::{Choice, Destination, Form, Instruction, Mode, Operand, Scalar, Target, Word};
+use record::{Form, Instruction, Mode, Operand, Target, WORDS, Word};
+use refusals::Refusal;
 
 // At most so many bytes of a listing.
 const LISTING_LIMIT: usize = 65536;
 
-const WORDS: u16 = 64;
-
 const LINE_FEED: u8 = 10;
-
-// The refusals.
-const LISTING_TOO_LONG: u8 = 22;
-
-const OUT_OF_FILE: u8 = 6;
-
-// How far the line's first byte is from the end of the listing, that no line has the register, or the documents' number of the refusal.
-#[derive(Clone, Copy)]
-pub enum Last {
-    Distance(usize),
-    Nowhere,
-    Refused(u8),
-}
 
 // ---- a line
 
@@ -37,79 +22,32 @@ fn form_d(f: Form) -> Word
     ensures { result ≡ form_d f }
 {
     match f {
-        Form::Plain { d } => d,
-        Form::Merge { d, sel: _, c: _ } => d,
-        Form::Combine { op: _, d, c: _ } => d,
+        Form::Plain { d } | Form::Merge { d, .. } | Form::Combine { d, .. } => d,
     }
 }
 
 fn operand_is(o: Operand, n: u16) -> bool
     ensures { result ≡ has_word n (operand_place o ∷ []) }
 {
-    match o {
-        Operand::Word(w) => w.0 == n,
-        Operand::Half(_) => false,
-        Operand::Double(_) => false,
-    }
+    matches!(o, Operand::Word(w) if w.0 == n)
 }
 
-// No predicate is a word.
-fn destination_is(d: Destination, n: u16) -> bool
-    ensures { result ≡ has_word n (destination_places d) }
-{
-    match d {
-        Destination::One(_) => false,
-        Destination::Pair(_, _) => false,
-        Destination::First(_) => false,
-        Destination::Second(_) => false,
-    }
-}
-
-fn scalar_is(s: Scalar, n: u16) -> bool
-    ensures { result ≡ has_word n (r (form_d s.form) ∷ []) }
-{
-    let f = s.form;
-    form_d(f).0 == n
-}
-
-fn choice_is(c: Choice, n: u16) -> bool
-    ensures { result ≡ has_word n (operand_place c.d ∷ []) }
-{
-    let d = c.d;
-    operand_is(d, n)
-}
-
-// Whether the instruction has `%r` number n as destination.
+// Whether the instruction has `%r` number n as destination; no predicate is one.
 fn has_word(i: Instruction, n: u16) -> bool
     ensures { result ≡ has_word n (destinations i) }
 {
     match i {
-        Instruction::Arithmetic {
-            op: _,
-            dtype: _,
-            sat: _,
-            scalar,
-        } => scalar_is(scalar, n),
-        Instruction::Vset { cmp: _, scalar } => scalar_is(scalar, n),
-        Instruction::VsetLanes { cmp: _, lanes } => lanes.d.0 == n,
-        Instruction::ArithmeticLanes {
-            op: _,
-            dtype: _,
-            sat: _,
-            lanes,
-        } => lanes.d.0 == n,
-        Instruction::Set {
-            dtype: _,
-            d,
-            comparison: _,
-        } => d.0 == n,
-        Instruction::Setp { d, comparison: _ } => destination_is(d, n),
-        Instruction::Selp { choice, c: _ } => choice_is(choice, n),
-        Instruction::Slct {
-            ctype: _,
-            choice,
-            c: _,
-        } => choice_is(choice, n),
+        Instruction::Arithmetic { scalar, .. } | Instruction::Vset { scalar, .. } => {
+            form_d(scalar.form).0 == n
+        }
+        Instruction::ArithmeticLanes { lanes, .. } | Instruction::VsetLanes { lanes, .. } => {
+            lanes.d.0 == n
+        }
+        Instruction::Set { d, .. } => d.0 == n,
+        Instruction::Setp { .. } => false,
+        Instruction::Selp { choice, .. } | Instruction::Slct { choice, .. } => {
+            operand_is(choice.d, n)
+        }
     }
 }
 
@@ -118,12 +56,8 @@ fn line_has(line: &[u8], n: u16) -> bool
     ensures { result ≡ own_has n line.now }
 {
     match read::read(Target::Sm30, Mode::Ordinary, line) {
-        Reading::Record(r) => {
-            let i = r.instruction;
-            has_word(i, n)
-        }
-        Reading::Refused(_) => false,
-        Reading::RefusedAt(_, _) => false,
+        Ok(r) => has_word(r.instruction, n),
+        Err(_) => false,
     }
 }
 
@@ -134,11 +68,7 @@ fn line_end(s: &[u8], at: usize) -> usize
     requires { (0 < at) × (at ≤ length s.now) }
     ensures { result ≡ line_end s.now at }
 {
-    let k = at - 1;
-    if s[k] == LINE_FEED {
-        return k;
-    }
-    at
+    if s[at - 1] == LINE_FEED { at - 1 } else { at }
 }
 
 // Where the line that ends at `end` begins: behind a line feed, or with the listing.
@@ -146,13 +76,10 @@ fn line_start(s: &[u8], end: usize) -> usize
     requires { end ≤ length s.now }
     ensures { result ≡ line_start s.now end }
 {
-    let mut i = end;
-    while 0 < i {
-        let k = i - 1;
+    for k in (0..end).rev() {
         if s[k] == LINE_FEED {
-            return i;
+            return k + 1;
         }
-        i = k;
     }
     0
 }
@@ -184,13 +111,13 @@ fn goes_on_at(s: &[u8], gone: usize, n: u16) -> bool
 }
 
 // Where it begins, if there is one.
-fn found_at(s: &[u8], gone: usize) -> Last
-    ensures { answer_of result ≡ told (found_at s.now gone) }
+fn found_at(s: &[u8], gone: usize) -> Option<usize>
+    ensures { distance_of result ≡ told (found_at s.now gone) }
 {
     if gone < s.len() {
-        return Last::Distance(line_back(s, gone));
+        return Some(line_back(s, gone));
     }
-    Last::Nowhere
+    None
 }
 
 // ---- the reader
@@ -227,15 +154,15 @@ fn line_further<'a>(b: Back<'a>) -> Back<'a>
 }
 
 // The line before, if there is one.
-fn found<'a>(b: Back<'a>) -> Last
-    ensures { answer_of result ≡ told (found_at b.entry.listing.now b.entry.gone) }
+fn found<'a>(b: Back<'a>) -> Option<usize>
+    ensures { distance_of result ≡ told (found_at b.entry.listing.now b.entry.gone) }
 {
     found_at(b.listing, b.gone)
 }
 
 // From the end back, a line at a time, to the first line that has it.
-fn search(listing: &[u8], n: u16) -> Last
-    ensures { answer_of result ≡ told (last_beyond listing.now 0 n) }
+fn search(listing: &[u8], n: u16) -> Option<usize>
+    ensures { distance_of result ≡ told (last_beyond listing.now 0 n) }
 {
     let mut b = at_end(listing);
     while goes_on(b, n) {
@@ -246,18 +173,19 @@ fn search(listing: &[u8], n: u16) -> Last
 
 // ---- the entry point
 
-// The answer is that of reading all of the listing from the front.
-pub fn last_writer(listing: &[u8], register: Word) -> Last
+// How far the first byte of the line that wrote the register last is from the end of the listing, if one did. The answer is that of reading all of
+// the listing from the front.
+pub fn last_writer(listing: &[u8], register: Word) -> Result<Option<usize>, Refusal>
     ensures { ByFullReading listing.now register.0 (answer_of result) }
 {
     let n = register.0;
     let too_long = LISTING_LIMIT < listing.len();
     let out_of_file = WORDS <= n;
     if too_long {
-        return Last::Refused(LISTING_TOO_LONG);
+        return Err(Refusal::ListingTooLong);
     }
     if out_of_file {
-        return Last::Refused(OUT_OF_FILE);
+        return Err(Refusal::OutOfFile);
     }
-    search(listing, n)
+    Ok(search(listing, n))
 }

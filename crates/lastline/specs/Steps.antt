@@ -1,6 +1,6 @@
 -- What the functions' answers say in these words, and what stands in the lent buffer; and the code's own way: what it makes of a word, and how it counts
 -- lines.
-use Rattle.std.specs.Prelude.{◌≡◌, ℕ, ◌+◌, ◌<◌, ◌≤◌, Bool, cond, List, [], ◌∷◌, length, ◌==◌, refl}
+use Rattle.std.specs.Prelude.{◌≡◌, ℕ, ◌+◌, ◌<◌, ◌≤◌, Bool, cond, List, [], ◌∷◌, length, ◌==◌, refl, Err, Ok, Result, Some, None}
 use Rattle.std.proofs.Math.Option.{Option, none, some}
 use Rattle.signs.specs.Bytes.{line_feed}
 use Rattle.rules.specs.Writing.{front}
@@ -9,19 +9,15 @@ use Rattle.text.specs.Buffer.{Buffer, Puts}
 use Rattle.text.specs.DigitLaws.{most_digits}
 use Rattle.tree.specs.declared.Place.{Place}
 use Rattle.tree.specs.declared.Place.TheVariants.{Word, Half, Double, Pred}
-use Rattle.scan.specs.declared.Register.{Register}
-use Rattle.scan.specs.declared.Register.TheVariants.{Got, Bad}
-use Rattle.lastline.specs.declared.Asked.{Asked}
-use Rattle.lastline.specs.declared.Asked.TheVariants as asked
-use Rattle.lastline.specs.declared.Said.{Said}
-use Rattle.lastline.specs.declared.Said.TheVariants as said
+use Rattle.record.specs.declared.Word as register
+use Rattle.std.specs.declared.option.Option.{Option as Given}
 use Rattle.lastline.specs.LastText.{Printed}
 
 -- ==== the word
 
-abbrev pub asked_of : Asked → Option ℕ
-asked_of (asked.Register w) = some w.0
-asked_of asked.Other = none
+abbrev pub asked_of : Given register.Word → Option ℕ
+asked_of (Some w) = some w.0
+asked_of None = none
 
 abbrev pub word_in : Place → Bool → Option ℕ
 word_in (Word w) whole = cond whole (some w.0) none
@@ -30,9 +26,9 @@ word_in (Double d) whole = none
 word_in (Pred p) whole = none
 
 -- what is found at the front, where it is all of the word
-abbrev pub asked_by : Register → List ℕ → Option ℕ
-asked_by (Got p n) l = word_in p (n == length l)
-asked_by (Bad k) l = none
+abbrev pub asked_by : Result (Place × ℕ) ℕ → List ℕ → Option ℕ
+asked_by (Ok (p, n)) l = word_in p (n == length l)
+asked_by (Err k) l = none
 
 -- ==== the text
 
@@ -54,9 +50,9 @@ pub record PutsPrinted (s : List ℕ) (n : ℕ) (x y : Buffer) : Type 0 where
 abbrev pub answer_room : ℕ
 answer_room = most_digits + 1 + longest_line + 1
 
-abbrev pub said_of : Said → Option ℕ
-said_of (said.Length n) = some n
-said_of said.NoRoom = none
+abbrev pub said_of : Given ℕ → Option ℕ
+said_of (Some n) = some n
+said_of None = none
 
 -- a buffer that may be too short is left as it was; else the text stands at its front, and behind it all is as it was
 pub data Lays (s : List ℕ) (n : ℕ) (out : List ℕ) : Option ℕ → List ℕ → Type 0 where
@@ -64,14 +60,14 @@ pub data Lays (s : List ℕ) (n : ℕ) (out : List ℕ) : Option ℕ → List �
   laid : {t : List ℕ} → answer_room ≤ length out → Printed s n t → Lays s n out (some (length t)) (front t out)
 
 -- one to one: no two answers say the same
-pub asked_one : (x y : Asked) → asked_of x ≡ asked_of y → x ≡ y
-asked_one (asked.Register v) (asked.Register w) e = let z : v.0 ≡ w.0 = cc in λ i. asked.Register (record { 0 = z i })
-asked_one (asked.Register v) asked.Other e = cc
-asked_one asked.Other (asked.Register w) e = cc
-asked_one asked.Other asked.Other e = refl
+pub asked_one : (x y : Given register.Word) → asked_of x ≡ asked_of y → x ≡ y
+asked_one (Some v) (Some w) e = let z : v.0 ≡ w.0 = cc in λ i. Some (record { 0 = z i })
+asked_one (Some v) None e = cc
+asked_one None (Some w) e = cc
+asked_one None None e = refl
 
-pub said_one : (x y : Said) → said_of x ≡ said_of y → x ≡ y
-said_one (said.Length m) (said.Length n) e = cc
-said_one (said.Length m) said.NoRoom e = cc
-said_one said.NoRoom (said.Length n) e = cc
-said_one said.NoRoom said.NoRoom e = refl
+pub said_one : (x y : Given ℕ) → said_of x ≡ said_of y → x ≡ y
+said_one (Some m) (Some n) e = cc
+said_one (Some m) None e = cc
+said_one None (Some n) e = cc
+said_one None None e = refl

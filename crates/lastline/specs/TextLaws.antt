@@ -1,5 +1,5 @@
 -- Every word asks for one register or for none, every question has one text, and what the code puts is that. Assumes nothing.
-use Rattle.std.specs.Prelude.{◌≡◌, ℕ, suc, ◌+◌, ◌-◌, ◌%◌, ◌^◌, ◌<◌, ◌≤◌, Bool, true, false, cond, List, [], ◌∷◌, ◌++◌, length, take, drop, ◌==◌, slice_index, slice_range, refl}
+use Rattle.std.specs.Prelude.{◌≡◌, ℕ, suc, ◌+◌, ◌-◌, ◌%◌, ◌^◌, ◌<◌, ◌≤◌, Bool, true, false, cond, List, [], ◌∷◌, ◌++◌, length, take, drop, ◌==◌, slice_index, slice_range, refl, Err, Result}
 use Rattle.std.proofs.Common.{mod-eq_of_lt, add-one, arith, sym, ap, ap₂, ◌∙◌, subst, append-nil, length-append, drop_of_length-le, drop-cons, eq-eqb, eqb-true}
 use Rattle.std.proofs.Math.Option.{Option, none, some}
 use Rattle.signs.specs.Text.{bytes}
@@ -21,8 +21,6 @@ use Rattle.laws.specs.LineLengths.{longest_line, standard_length}
 use Rattle.text.specs.Buffer.{Buffer, buffer, Puts, ◌then◌, whole_front}
 use Rattle.text.specs.DigitLaws.{most_digits, decimal_short}
 use Rattle.tree.specs.Seen.{seen_place}
-use Rattle.scan.specs.declared.Register.{Register}
-use Rattle.scan.specs.declared.Register.TheVariants.{Got, Bad}
 use Rattle.scan.specs.Registers.{register_of}
 use Rattle.scan.specs.RegisterLaws.{register_sound, register_complete}
 use Rattle.read.specs.Answering.{answers_unique}
@@ -39,6 +37,11 @@ use Rattle.last.specs.LastIs.{LastIs, too_long, no_register, nowhere, at_distanc
 use Rattle.last.specs.LastIsLaws.{last_is, as_relation, as_reading, one_last}
 use Rattle.lastline.specs.LastText.{Asks, for_register, for_none, LineAt, found_text, TextOf, line_found, none_found, refused, Printed, printed}
 use Rattle.lastline.specs.Steps.{word_in, asked_by, feed_in, feeds_in, PutsPrinted, answer_room, Lays, no_room, laid}
+use Rattle.scan.specs.Registers.{register_got}
+use Rattle.tree.specs.declared.Place.{Place}
+use Rattle.std.specs.declared.option.Option.{Option as Maybe}
+use Rattle.std.specs.declared.option.Option.TheVariants.{Some, None}
+use Rattle.read.specs.Paper.{placed}
 
 impossible : {A : Type 0} → ◌≡◌ {A = ℕ} 0 1 → A
 impossible z = absurd (omega (arith, z))
@@ -48,8 +51,8 @@ impossible z = absurd (omega (arith, z))
 -- a register's text asks for it
 register_asked : (l : List ℕ) (n : ℕ) → GoodPlace (word n) → l ≡ register_text (word n) → asked_by (register_of l) l ≡ some n
 register_asked l n g e =
-    let q : register_of l ≡ Got (seen_place (word n)) (length l) =
-    ap register_of (e ∙ sym (append-nil (register_text (word n)))) ∙ register_complete (word n) [] g refl ∙ ap (λ (x : List ℕ). Got (seen_place (word n)) (length x)) (sym e) in
+    let q : register_of l ≡ register_got (seen_place (word n)) (length l) =
+    ap register_of (e ∙ sym (append-nil (register_text (word n)))) ∙ register_complete (word n) [] g refl ∙ ap (λ (x : List ℕ). register_got (seen_place (word n)) (length x)) (sym e) in
     rw (q, eq-eqb (length l) (length l) refl)
 
 -- and what asks for it is its text
@@ -67,9 +70,9 @@ nothing_behind l w (b ∷ r) e h = absurd (omega (arith, ap length e, length-app
 asked_register : (l : List ℕ) (n : ℕ) → asked_by (register_of l) l ≡ some n → GoodPlace (word n) × (l ≡ register_text (word n))
 asked_register l n e = go (register_of l) refl e
   where
-    go : (r : Register) → register_of l ≡ r → asked_by r l ≡ some n → GoodPlace (word n) × (l ≡ register_text (word n))
-    go (Bad k) q i = impossible cc
-    go (Got p k) q i =
+    go : (r : Result (Place × ℕ) ℕ) → register_of l ≡ r → asked_by r l ≡ some n → GoodPlace (word n) × (l ≡ register_text (word n))
+    go (Err k) q i = impossible cc
+    go (register_got p k) q i =
         let x = register_sound l p k q in
         let w = word_of n x.place (k == length l) (rw x.sees i) in
         let h : length (register_text x.place) ≡ length l = sym x.taken ∙ eqb-true k (length l) w.1 in
@@ -237,6 +240,11 @@ module _ {s : List ℕ} {d number : ℕ} {m : Record} (x : LineAt s d number m) 
 
   pub not_refused_at : {k i : ℕ} {A : Type 0} → Answers Sm30 Ordinary (slice_range s at end) (reading.refused_at k i) → A
   not_refused_at h = impossible (let e = answer_there h in cc)
+
+  -- a refusal, with a place or without
+  pub not_placed : (k : ℕ) (p : Maybe ℕ) {A : Type 0} → Answers Sm30 Ordinary (slice_range s at end) (placed k p) → A
+  not_placed k None h = not_refused h
+  not_placed k (Some i) h = not_refused_at h
 
   pub found_put : (n : ℕ) → n ≡ (feeds_in (take at s) + 1) % 2 ^ 64 → length s < 2 ^ 64 → {r : Record} {y z : Buffer} → Answers Sm30 Ordinary (slice_range s at end) (read r)
       → (Legal r → Puts y (found_text n r) z) → Puts y (found_text number m) z

@@ -1,5 +1,5 @@
 -- What a turn of the code's loops needs, and how long the texts are. Assumes nothing.
-use Rattle.std.specs.Prelude.{◌≡◌, ℕ, zero, suc, ◌+◌, ◌*◌, ◌/◌, ◌%◌, ◌^◌, ◌<◌, ◌≤◌, Bool, true, false, cond, not, List, [], ◌∷◌, ◌++◌, length, take, drop, ◌==◌, nat_lt, slice_index, slice_index_or}
+use Rattle.std.specs.Prelude.{◌≡◌, ℕ, zero, suc, ◌+◌, ◌*◌, ◌/◌, ◌%◌, ◌^◌, ◌<◌, ◌≤◌, Bool, true, false, cond, not, List, [], ◌∷◌, ◌++◌, length, take, drop, ◌==◌, nat_lt, slice_index, slice_index_or, Result}
 use Rattle.std.proofs.Common.{pow-suc, add-one, arith, ap, subst, ◌∙◌, append_assoc, append-nil, length-append, drop_of_length-le, drop-cons, take-suc}
 use Rattle.std.proofs.Math.Decide.{dec_lt}
 use Rattle.std.proofs.Math.Path.{refl, sym}
@@ -25,6 +25,7 @@ use Rattle.tally.specs.Lent as lent
 use Rattle.tally.specs.PlaceLaws.{entries_taken}
 use Rattle.tally.specs.CallLaws.{tally_small}
 use Rattle.tally.specs.declared.Passed.{Passed}
+use Rattle.refusals.specs.declared.Refusal.{Refusal}
 use Rattle.tally.specs.Lent.{no_entry, entries_of, call_of}
 use Rattle.passlog.specs.Log.{floor_digits, floor_text, word_digits, read_text, ReadFits, SaysRead, answer_text, line_answer, logged_line, washed_text, entry_text, end_text}
 use Rattle.passlog.specs.Spelling.{digit_of, number_from}
@@ -141,7 +142,7 @@ module _ {bs ys p : List ℕ} {n : ℕ} (a : Puts (buffer bs 0) p (buffer ys n))
 
 -- ==== the text of a line
 
-pub said_read : {floor : ℕ} {t g : Tally} {l : List ℕ} {r : Read} {x y : Buffer} (a : Passed)
+pub said_read : {floor : ℕ} {t g : Tally} {l : List ℕ} {r : Read} {x y : Buffer} (a : Result Passed Refusal)
     → SaysRead l (some r) → lent.outcome (lent.answer_of a) g ≡ call_of t r floor → Puts x (answer_text (lent.answer_of a)) y → PutsAnswer floor t l g x y
 said_read {floor} {t} {g} {l} {r} {x} {y} a s e p = record {
   said = some r;

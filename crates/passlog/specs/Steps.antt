@@ -1,5 +1,5 @@
 -- The code's own way through the input: one line at a call, which goes on where the one before it stopped; then the end.
-use Rattle.std.specs.Prelude.{◌≡◌, ℕ, ◌+◌, ◌*◌, ◌<◌, ◌≤◌, cond, not, List, [], ◌++◌, length, drop, nat_lt, refl}
+use Rattle.std.specs.Prelude.{◌≡◌, ℕ, ◌+◌, ◌*◌, ◌<◌, ◌≤◌, cond, not, List, [], ◌++◌, length, drop, nat_lt, refl, Some, None, Result, Ok, Err}
 use Rattle.std.proofs.Math.Option.{Option, none, some}
 use Rattle.signs.specs.Text.{bytes}
 use Rattle.signs.specs.Digits.{decimal}
@@ -14,24 +14,24 @@ use Rattle.tally.specs.declared.Read.{Read}
 use Rattle.tally.specs.declared.Tally.{Tally}
 use Rattle.tally.specs.Passes.{most_tags, is_tally}
 use Rattle.tally.specs.Lent.{entries_of}
-use Rattle.passlog.specs.declared.Line.{Line}
-use Rattle.passlog.specs.declared.Line.TheVariants as line
-use Rattle.passlog.specs.declared.Floor.{Floor}
-use Rattle.passlog.specs.declared.Floor.TheVariants as floor
-use Rattle.passlog.specs.declared.Ended.{Ended}
-use Rattle.passlog.specs.declared.Ended.TheVariants.{Length, NoRoom, Refused}
+use Rattle.passlog.specs.declared.EndError.{EndError}
+use Rattle.passlog.specs.declared.EndError.TheVariants.{NoRoom, Refused}
+use Rattle.std.specs.declared.option.Option.{Option as Given}
+use Rattle.std.proofs.Common.{ap}
+use Rattle.refusals.specs.declared.Refusal.{Refusal}
+use Rattle.refusals.specs.Numbers.{number_of, numbers_one}
 use Rattle.passlog.specs.Log.{word_digits, SaysRead, line_answer, tally_after, logged_line, end_text}
 use Rattle.lines.specs.Until.{length_to, before}
 
 -- ==== what the answers say
 
-abbrev pub line_of : Line → Option Read
-line_of (line.Read r) = some r
-line_of line.Other = none
+abbrev pub line_of : Given Read → Option Read
+line_of (Some r) = some r
+line_of None = none
 
-abbrev pub floor_said : Floor → Option ℕ
-floor_said (floor.Is f) = some f
-floor_said floor.Other = none
+abbrev pub floor_said : Given ℕ → Option ℕ
+floor_said (Some f) = some f
+floor_said None = none
 
 -- ==== a line
 
@@ -121,31 +121,31 @@ ending t out =
     (cond (nat_lt (length out) end_room) (end_outcome no_buffer out)
     (end_outcome (printed_bytes (length (end_text (entries_of t)))) (front (end_text (entries_of t)) out)))
 
-abbrev pub answer_of : Ended → EndAnswer
-answer_of (Length n) = printed_bytes n
-answer_of NoRoom = no_buffer
-answer_of (Refused n) = refused n
+abbrev pub answer_of : Result ℕ EndError → EndAnswer
+answer_of (Ok n) = printed_bytes n
+answer_of (Err NoRoom) = no_buffer
+answer_of (Err (Refused r)) = refused (number_of r)
 
 -- one to one: no two answers say the same
-pub answers_one : (x y : Ended) → answer_of x ≡ answer_of y → x ≡ y
-answers_one (Length m) (Length n) e = cc
-answers_one (Length m) NoRoom e = cc
-answers_one (Length m) (Refused n) e = cc
-answers_one NoRoom (Length n) e = cc
-answers_one NoRoom NoRoom e = refl
-answers_one NoRoom (Refused n) e = cc
-answers_one (Refused m) (Length n) e = cc
-answers_one (Refused m) NoRoom e = cc
-answers_one (Refused m) (Refused n) e = cc
+pub answers_one : (x y : Result ℕ EndError) → answer_of x ≡ answer_of y → x ≡ y
+answers_one (Ok m) (Ok n) e = cc
+answers_one (Ok m) (Err NoRoom) e = cc
+answers_one (Ok m) (Err (Refused n)) e = cc
+answers_one (Err NoRoom) (Ok n) e = cc
+answers_one (Err NoRoom) (Err NoRoom) e = refl
+answers_one (Err NoRoom) (Err (Refused n)) e = cc
+answers_one (Err (Refused m)) (Ok n) e = cc
+answers_one (Err (Refused m)) (Err NoRoom) e = cc
+answers_one (Err (Refused m)) (Err (Refused n)) e = ap (λ (r : Refusal). Err (Refused r)) (numbers_one m n cc)
 
-pub lines_one : (x y : Line) → line_of x ≡ line_of y → x ≡ y
-lines_one (line.Read r) (line.Read s) e = cc
-lines_one (line.Read r) line.Other e = cc
-lines_one line.Other (line.Read s) e = cc
-lines_one line.Other line.Other e = refl
+pub lines_one : (x y : Given Read) → line_of x ≡ line_of y → x ≡ y
+lines_one (Some r) (Some s) e = cc
+lines_one (Some r) None e = cc
+lines_one None (Some s) e = cc
+lines_one None None e = refl
 
-pub floors_one : (x y : Floor) → floor_said x ≡ floor_said y → x ≡ y
-floors_one (floor.Is m) (floor.Is n) e = cc
-floors_one (floor.Is m) floor.Other e = cc
-floors_one floor.Other (floor.Is n) e = cc
-floors_one floor.Other floor.Other e = refl
+pub floors_one : (x y : Given ℕ) → floor_said x ≡ floor_said y → x ≡ y
+floors_one (Some m) (Some n) e = cc
+floors_one (Some m) None e = cc
+floors_one None (Some n) e = cc
+floors_one None None e = refl

@@ -11,6 +11,7 @@ ghost use Rattle.passlog.specs.Log.{SaysFloor, read_text, SaysRead, answer_text,
 ghost use Rattle.passlog.specs.Spelling.{digit_of, number_of, word_at, rest_of, guess_of};
 ghost use Rattle.passlog.specs.Steps.{two_text, line_of, floor_said, line_room, PutsAnswer, PutsLine, Logs, entry_room, answer_of, end_outcome, ending};
 
+use refusals::Refusal;
 use tally::{Entry, Passed, Read, Tally};
 
 // At most so many bytes of input.
@@ -33,8 +34,6 @@ const DECIMAL: u8 = 10;
 
 const HEXADECIMAL: u8 = 16;
 
-const WORD_SIZE: u64 = 4294967296;
-
 // How many hexadecimal digits a word and a floor have, and how many floors there are.
 const WORD_DIGITS: u8 = 8;
 
@@ -46,21 +45,8 @@ const FLOOR_ROOM: usize = 2;
 
 const WASHED: u8 = 3;
 
-// What a line is.
-#[derive(Clone, Copy)]
-pub enum Line {
-    Read(Read),
-    Other,
-}
-
-// What the word FLOOR is.
-#[derive(Clone, Copy)]
-pub enum Floor {
-    Is(u8),
-    Other,
-}
-
 // How far the input is logged: the place and the number of the next line, how many bytes of the lent buffer were used, and the tally.
+// The buffer is the caller's; the clause of log_line is of the fields (`Logs`). Not one with report's: see there.
 #[derive(Clone, Copy)]
 pub struct Progress {
     pub at: usize,
@@ -69,12 +55,11 @@ pub struct Progress {
     pub tally: Tally,
 }
 
-// How many bytes of the lent buffer were used; that it is too short; or the number of a refusal.
+// Why the end has no text: the lent buffer is too short, or a refusal.
 #[derive(Clone, Copy)]
-pub enum Ended {
-    Length(usize),
+pub enum EndError {
     NoRoom,
-    Refused(u8),
+    Refused(Refusal),
 }
 
 // A text put into the lent buffer, up to a place, and the tally then.
@@ -106,33 +91,26 @@ fn rest(s: &[u8]) -> &[u8]
 fn digit(b: u8) -> u8
     ensures { result ≡ digit_of b }
 {
-    if b < b'0' {
-        return 0;
+    match b {
+        0..b'0' => 0,
+        b'0'..b'A' => b - b'0',
+        _ => b - b'A' + 10,
     }
-    if b < b'A' {
-        return b - b'0';
-    }
-    b - b'A' + 10
 }
 
 // A number with one digit more, modulo 2^32.
 fn with_digit(v: u32, base: u8, b: u8) -> u32
     ensures { result ≡ (v * base + digit_of b) % word_size }
 {
-    ((v as u64 * base as u64 + digit(b) as u64) % WORD_SIZE) as u32
+    v.wrapping_mul(u32::from(base))
+        .wrapping_add(u32::from(digit(b)))
 }
 
 // All of a text's bytes as digits.
 fn number(s: &[u8], base: u8) -> u32
     ensures { result ≡ number_of base s.now }
 {
-    let mut v: u32 = 0;
-    let mut i = 0;
-    while i < s.len() {
-        v = with_digit(v, base, s[i]);
-        i += 1;
-    }
-    v
+    s.iter().fold(0, |v, b| with_digit(v, base, *b))
 }
 
 // What a line would say if it were a read.
@@ -167,29 +145,29 @@ fn put_read(out: &mut [u8], at: usize, r: Read) -> usize
 }
 
 // A line is a read where it is the text of the read that it would be.
-pub fn read_of(line: &[u8]) -> Line
+pub fn read_of(line: &[u8]) -> Option<Read>
     ensures { SaysRead line.now (line_of result) }
 {
     let r = guess(line);
     let mut room = [0u8; READ_ROOM];
     let n = put_read(&mut room, 0, r);
     if text::same(&room[..n], line) {
-        return Line::Read(r);
+        return Some(r);
     }
-    Line::Other
+    None
 }
 
 // A word is a floor where it is the text of the floor that it would be.
-pub fn floor_of(word: &[u8]) -> Floor
+pub fn floor_of(word: &[u8]) -> Option<u8>
     ensures { SaysFloor word.now (floor_said result) }
 {
     let f = (number(word, HEXADECIMAL) % FLOORS) as u8;
     let mut room = [0u8; FLOOR_ROOM];
     let n = text::put_hex(&mut room, 0, f as u64, FLOOR_DIGITS);
     if text::same(&room[..n], word) {
-        return Floor::Is(f);
+        return Some(f);
     }
-    Floor::Other
+    None
 }
 
 // ---- one line
@@ -202,14 +180,14 @@ fn put_numbered(out: &mut [u8], at: usize, words: &[u8], n: u64) -> usize
     text::put_decimal(out, next, n)
 }
 
-fn put_answer(out: &mut [u8], at: usize, a: Passed) -> usize
+fn put_answer(out: &mut [u8], at: usize, a: Result<Passed, Refusal>) -> usize
     ensures { Puts (buffer out.old at) (answer_text (lent.answer_of a)) (buffer out.new result) }
 {
     match a {
-        Passed::Counted(c) => put_numbered(out, at, b"counted ", c as u64),
-        Passed::Duplicate => text::put(out, at, b"duplicate"),
-        Passed::Weak(v) => put_numbered(out, at, b"weak ", v as u64),
-        Passed::Refused(n) => put_numbered(out, at, b"refused ", n as u64),
+        Ok(Passed::Counted(c)) => put_numbered(out, at, b"counted ", c as u64),
+        Ok(Passed::Duplicate) => text::put(out, at, b"duplicate"),
+        Ok(Passed::Weak(v)) => put_numbered(out, at, b"weak ", v as u64),
+        Err(refusal) => put_numbered(out, at, b"refused ", refusal.number() as u64),
     }
 }
 
@@ -218,7 +196,7 @@ fn put_said(out: &mut [u8], at: usize, floor: u8, t: Tally, line: &[u8]) -> Put
     ensures { PutsAnswer floor t line.now result.tally (buffer out.old at) (buffer out.new result.next) }
 {
     match read_of(line) {
-        Line::Read(r) => {
+        Some(r) => {
             let x = tally::lend(t, r, floor);
             let a = x.answer;
             let after = x.tally;
@@ -227,7 +205,7 @@ fn put_said(out: &mut [u8], at: usize, floor: u8, t: Tally, line: &[u8]) -> Put
                 tally: after,
             }
         }
-        Line::Other => Put {
+        None => Put {
             next: text::put(out, at, b"not a read"),
             tally: t,
         },
@@ -258,7 +236,7 @@ fn log_one(floor: u8, input: &[u8], from: usize, number: u64, t: Tally, out: &mu
     let after = p.tally;
     Progress {
         at: end + 1,
-        number: std::num::wrapping_add_u64(number, 1),
+        number: number.wrapping_add(1),
         len: p.next,
         tally: after,
     }
@@ -277,7 +255,7 @@ pub fn log_line(
 {
     let nothing = Progress {
         at: from,
-        number: number,
+        number,
         len: 0,
         tally: t,
     };
@@ -290,7 +268,7 @@ pub fn log_line(
     if LIMIT < input.len() {
         return Progress {
             at: input.len(),
-            number: number,
+            number,
             len: text::put(out, 0, b"input too long\n"),
             tally: t,
         };
@@ -319,23 +297,18 @@ fn put_entry(out: &mut [u8], at: usize, e: Entry) -> usize
 }
 
 // The tags that the tally holds.
-pub fn end(t: Tally, out: &mut [u8]) -> Ended
+pub fn end(t: Tally, out: &mut [u8]) -> Result<usize, EndError>
     ensures { end_outcome (answer_of result) out.new ≡ ending t out.old }
 {
     if !tally::is_tally(t) {
-        return Ended::Refused(23);
+        return Err(EndError::Refused(Refusal::NotTally));
     }
     if out.len() < END_ROOM {
-        return Ended::NoRoom;
+        return Err(EndError::NoRoom);
     }
-    let n = t.len;
-    let entries = t.entries;
     let mut used = 0;
-    let mut i = 0;
-    while i < n {
-        let e = entries[i];
-        used = put_entry(out, used, e);
-        i += 1;
+    for e in &t.entries[..t.len] {
+        used = put_entry(out, used, *e);
     }
-    Ended::Length(used)
+    Ok(used)
 }

@@ -12,9 +12,9 @@ ghost use Rattle.report.specs.Listing.{refused_text, placed_text, executed_text}
 ghost use Rattle.report.specs.Chunks.{line_text, behind, line_room, PutsAnswer, PutsTurn, Prints};
 
 use execute::Executed;
-use read::Reading;
+use read::Refused;
 use record::{Mode, Record, Target};
-use write::Written;
+use refusals::Refusal;
 
 // At most so many bytes of a listing.
 const LISTING_LIMIT: usize = 65536;
@@ -28,6 +28,7 @@ const LINE_FEED: u8 = 10;
 const STANDARD_ROOM: usize = 160;
 
 // How far a listing is printed: the place and the number of the next line, and how many bytes of the lent buffer were used.
+// The buffer is the caller's. Not one with passlog's, which has a tally: `Prints` and `Logs` are of the fields.
 #[derive(Clone, Copy)]
 pub struct Progress {
     pub at: usize,
@@ -38,17 +39,19 @@ pub struct Progress {
 // ---- one line
 
 // The standard line; of a record that is not legal, nothing.
+// ATTACKS names it with buffer and place, as put_refused. What calls them here is so too: Out does not lend its buffer.
 pub fn put_standard(out: &mut [u8], at: usize, r: Record) -> usize
     ensures { Puts (buffer out.old at) (line_text r) (buffer out.new result) }
 {
     let mut line = [0u8; STANDARD_ROOM];
     match write::write(r, &mut line) {
-        Written::Length(n) => text::put(out, at, &line[0..n]),
-        Written::Refused(_) => at,
+        Ok(n) => text::put(out, at, &line[0..n]),
+        Err(_) => at,
     }
 }
 
 // `refused` and the number.
+// n is a number, as `refused_text n` is of every n.
 pub fn put_refused(out: &mut [u8], at: usize, n: u8) -> usize
     ensures { Puts (buffer out.old at) (refused_text n) (buffer out.new result) }
 {
@@ -57,6 +60,7 @@ pub fn put_refused(out: &mut [u8], at: usize, n: u8) -> usize
 }
 
 // The place goes behind the number.
+// n is a number: see put_refused.
 fn put_placed(out: &mut [u8], at: usize, n: u8, place: usize) -> usize
     ensures { Puts (buffer out.old at) (placed_text n place) (buffer out.new result) }
 {
@@ -81,14 +85,14 @@ fn put_skipped(out: &mut [u8], at: usize, r: Record) -> usize
     put_standard(out, next, r)
 }
 
-fn put_executed(out: &mut [u8], at: usize, r: Record, x: Executed) -> usize
+fn put_executed(out: &mut [u8], at: usize, r: Record, x: Result<Executed, Refusal>) -> usize
     requires { Legal r }
     ensures { Puts (buffer out.old at) (executed_text (executed.answer_of x) r) (buffer out.new result) }
 {
     match x {
-        Executed::Done => put_done(out, at, r),
-        Executed::Skipped => put_skipped(out, at, r),
-        Executed::Refused(n) => put_refused(out, at, n),
+        Ok(Executed::Done) => put_done(out, at, r),
+        Ok(Executed::Skipped) => put_skipped(out, at, r),
+        Err(refusal) => put_refused(out, at, refusal.number()),
     }
 }
 
@@ -126,9 +130,19 @@ fn put_answer(
     ensures { PutsAnswer target mode line.now (files words.old halves.old doubles.old preds.old) (files words.new halves.new doubles.new preds.new) (buffer out.old at) (buffer out.new result) }
 {
     match read::read(target, mode, line) {
-        Reading::Record(r) => put_run(target, out, at, r, words, halves, doubles, preds),
-        Reading::Refused(n) => put_refused(out, at, n),
-        Reading::RefusedAt(n, place) => put_placed(out, at, n, place),
+        Ok(r) => put_run(target, out, at, r, words, halves, doubles, preds),
+        Err(
+            Refused {
+                refusal,
+                place: None,
+            },
+        ) => put_refused(out, at, refusal.number()),
+        Err(
+            Refused {
+                refusal,
+                place: Some(place),
+            },
+        ) => put_placed(out, at, refusal.number(), place),
     }
 }
 
@@ -172,6 +186,7 @@ fn goes_on(size: usize, at: usize, room: usize) -> bool
     (at < size) & (LINE_ROOM <= room)
 }
 
+// `while`: how long a line is and what room is left shows only turn by turn.
 fn print_lines(
     target: Target,
     mode: Mode,

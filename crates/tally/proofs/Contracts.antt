@@ -1,5 +1,6 @@
 -- What the contracts as they stand in src/lib.rt say: nothing is asked of the caller, and the answer and the tally are those of the call's own tally, read
 -- and floor. A weaker contract would fail here. Assumes nothing.
+use Rattle.std.specs.Prelude.{Result}
 use Prim.Native.Nat.{ℕ}
 use mathlib.Core.Path.{◌≡◌, refl}
 use mathlib.Core.Bool.{Bool}
@@ -10,6 +11,7 @@ use Rattle.tally.specs.Votes.{vote_of}
 use Rattle.tally.specs.Passes.{is_tally}
 use Rattle.tally.specs.Lent.{entries_of, outcome, answer_of, call_of, empty_tally}
 use Rattle.tally.specs.declared.Passed.{Passed}
+use Rattle.refusals.specs.declared.Refusal.{Refusal}
 use Rattle.tally.specs.declared.Read.{Read}
 use Rattle.tally.specs.declared.Tally.{Tally}
 use Rattle.tally.specs.declared.Updated.{Updated}
@@ -46,7 +48,7 @@ pub empty_promise : (κs : Lfts 0) (a : Dens κs empty-kinds.ps) (x : Tally) (s 
 empty_promise κs a x s p = p
 
 -- an answer and the struct that is left
-abbrev pub Leaves : Tally → Read → ℕ → Passed → Tally → Type 0
+abbrev pub Leaves : Tally → Read → ℕ → Result Passed Refusal → Tally → Type 0
 Leaves t r floor x left = outcome (answer_of x) left ≡ call_of t r floor
 
 pub update_asks_nothing : (κs : Lfts 0) (a : Dens κs update-kinds.ps) → update.Pre κs a
@@ -59,7 +61,7 @@ update_promise κs a x s p = p
 pub pass_asks_nothing : (κs : Lfts 1) (a : Dens κs pass-kinds.ps) → pass.Pre κs a ≡ Unit {0}
 pass_asks_nothing κs a = refl
 
-pub pass_promise : (κs : Lfts 1) (a : Dens κs pass-kinds.ps) (x : Passed) (s : AtExit (ended_of 1 pass-kinds.ps pass-kinds.r) κs)
+pub pass_promise : (κs : Lfts 1) (a : Dens κs pass-kinds.ps) (x : Result Passed Refusal) (s : AtExit (ended_of 1 pass-kinds.ps pass-kinds.r) κs)
     → pass.Post κs a x s ≡ Leaves a.0.now a.1.0 a.1.1.0 x s.0.now
 pass_promise κs a x s = refl
 

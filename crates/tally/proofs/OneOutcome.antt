@@ -1,5 +1,6 @@
 -- No two outcomes satisfy the contracts as they stand in src/lib.rt; Contracts.antt says that those of `pass` and `lend` are the ones named here. Assumes
 -- nothing.
+use Rattle.std.specs.Prelude.{Result}
 use Prim.Native.Nat.{ℕ}
 use mathlib.Core.Path.{◌≡◌, ap}
 use mathlib.Core.Bool.{Bool}
@@ -10,6 +11,7 @@ use Rattle.base.specs.Promise.{one_outcome}
 use Rattle.tally.specs.Lent.{Outcome, answers_one}
 use Rattle.tally.proofs.Contracts.{Leaves}
 use Rattle.tally.specs.declared.Passed.{Passed}
+use Rattle.refusals.specs.declared.Refusal.{Refusal}
 use Rattle.tally.specs.declared.Read.{Read}
 use Rattle.tally.specs.declared.Tally.{Tally}
 use Rattle.tally.specs.declared.Updated.{Updated}
@@ -39,7 +41,7 @@ empty_one_outcome κs a x y s t p q = one_outcome p q
 
 -- ==== the calls: an answer and the struct that is left
 
-pub pass_one_outcome : (t : Tally) (r : Read) (floor : ℕ) (x y : Passed) (s u : Tally) → Leaves t r floor x s → Leaves t r floor y u → (x ≡ y) × (s ≡ u)
+pub pass_one_outcome : (t : Tally) (r : Read) (floor : ℕ) (x y : Result Passed Refusal) (s u : Tally) → Leaves t r floor x s → Leaves t r floor y u → (x ≡ y) × (s ≡ u)
 pass_one_outcome t r floor x y s u p q =
     let z = one_outcome p q in
     (answers_one x y (ap (λ (o : Outcome). o.answer) z), ap (λ (o : Outcome). o.tally) z)

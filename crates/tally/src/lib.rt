@@ -10,6 +10,7 @@ ghost use Rattle.tally.specs.Lent.{no_entry, entries_of, outcome, answer_of, lai
 ghost use Rattle.tally.specs.Places.{place_of, put_at};
 
 use record::{Cmp6, LaneWidth, Lanes, VideoType, Word};
+use refusals::Refusal;
 
 // A tag that the tally holds, its last pass number, and how many of its passes counted.
 #[derive(Clone, Copy)]
@@ -34,19 +35,18 @@ pub struct Read {
     pub second: u32,
 }
 
-// What a call answers: the count that the tag stands at now; the votes of a weak read; the number of a refusal.
+// What a call that is not refused answers: the count that the tag stands at now; the votes of a weak read.
 #[derive(Clone, Copy)]
 pub enum Passed {
     Counted(u8),
     Duplicate,
     Weak(u32),
-    Refused(u8),
 }
 
 // The answer, and the tally brought up to date.
 #[derive(Clone, Copy)]
 pub struct Updated {
-    pub answer: Passed,
+    pub answer: Result<Passed, Refusal>,
     pub tally: Tally,
 }
 
@@ -181,13 +181,13 @@ fn held_tag(t: Tally, i: usize, r: Read) -> Updated
     let e = entries[i];
     if r.pass == e.last {
         return Updated {
-            answer: Passed::Duplicate,
+            answer: Ok(Passed::Duplicate),
             tally: t,
         };
     }
     if r.pass < e.last {
         return Updated {
-            answer: Passed::Refused(19),
+            answer: Err(Refusal::LowerPass),
             tally: t,
         };
     }
@@ -198,7 +198,7 @@ fn held_tag(t: Tally, i: usize, r: Read) -> Updated
         count: c,
     };
     Updated {
-        answer: Passed::Counted(c),
+        answer: Ok(Passed::Counted(c)),
         tally: put(t, i, moved),
     }
 }
@@ -211,7 +211,7 @@ fn new_tag(t: Tally, r: Read) -> Updated
     let n = t.len;
     if n == TAGS {
         return Updated {
-            answer: Passed::Refused(20),
+            answer: Err(Refusal::TallyFull),
             tally: t,
         };
     }
@@ -221,7 +221,7 @@ fn new_tag(t: Tally, r: Read) -> Updated
         count: LEAST_COUNT,
     };
     Updated {
-        answer: Passed::Counted(LEAST_COUNT),
+        answer: Ok(Passed::Counted(LEAST_COUNT)),
         tally: put(t, n, new),
     }
 }
@@ -246,14 +246,14 @@ pub fn update(t: Tally, r: Read, floor: u8) -> Updated
 {
     if !is_tally(t) {
         return Updated {
-            answer: Passed::Refused(23),
+            answer: Err(Refusal::NotTally),
             tally: t,
         };
     }
     let v = votes(r, floor);
     if v < ENOUGH_VOTES {
         return Updated {
-            answer: Passed::Weak(v),
+            answer: Ok(Passed::Weak(v)),
             tally: t,
         };
     }
@@ -275,7 +275,7 @@ pub fn empty() -> Tally
 }
 
 // The tally is lent and brought up to date: a thin wrapper over the update by value.
-pub fn pass(t: &mut Tally, r: Read, floor: u8) -> Passed
+pub fn pass(t: &mut Tally, r: Read, floor: u8) -> Result<Passed, Refusal>
     ensures { outcome (answer_of result) t.new ≡ call_of t.old r floor }
 {
     let done = update(*t, r, floor);

@@ -1,13 +1,18 @@
-use Rattle.std.proofs.Common.{add-one, rules}
-use Rattle.text.specs.Buffer.{same, ◌then◌}
-use Rattle.changes.specs.Changes.{changes_text}
+use Rattle.std.proofs.Common.{add-one, rules, ◌≡◌}
+use Rattle.text.specs.Out.{nothing, ◌then◌}
+use Rattle.record.specs.Registers.{count_of}
 use Rattle.changes.specs.Changes.{changes_text}
 use Rattle.changes.proofs.put_file.Goals as goal
 
 pub loop-k-init : goal.loop-k-init
 unfolding changes_text
-loop-k-init c = (search rules, search rules, same _)
+loop-k-init c = nothing _
 
 pub loop-k-preserved : goal.loop-k-preserved
 unfolding changes_text
-loop-k-preserved c = (search rules, search rules, rw (add-one, ← c.value-x.ensures) (c.loop-k.invariant.2 then c.put_change-next.ensures))
+loop-k-preserved c = rw (add-one, ← c.value.ensures) (c.loop-k.invariant then c.put_change.ensures)
+
+pub returns : goal.returns
+returns c =
+    let e : c.loop-k.k ≡ count_of c.args.file = search rules in
+    rw e at c.loop-k.invariant

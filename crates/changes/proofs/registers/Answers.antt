@@ -1,6 +1,6 @@
-use Rattle.std.proofs.Common.{lt-ltb}
+use Rattle.std.proofs.Common.{lt-ltb, rules}
 use Rattle.record.specs.Registers.{files}
-use Rattle.text.specs.Buffer.{◌then◌}
+use Rattle.text.specs.Out.{◌then◌, stands}
 use Rattle.changes.specs.Changes.{registers_text}
 use Rattle.changes.proofs.Laws.{registers_printed}
 use Rattle.changes.specs.Registers.{printing}
@@ -14,4 +14,7 @@ returns-then-out-lt-REGISTERS_ROOM c =
 
 pub returns : goal.returns
 unfolding registers_text
-returns c = registers_printed (files c.args.words.now c.args.halves.now c.args.doubles.now c.args.preds.now) c.if-out-lt-REGISTERS_ROOM.false (((c.put_file-at1.ensures then c.put_file-at2.ensures) then c.put_file-at3.ensures) then c.put_file-at4.ensures)
+returns c =
+    let w = c.put_file.ensures then c.put_file-2.ensures then c.put_file-3.ensures then c.put_file-4.ensures in
+    registers_printed (files c.args.words.now c.args.halves.now c.args.doubles.now c.args.preds.now) c.if-out-lt-REGISTERS_ROOM.false
+    (stands c.new-print.ensures.start w (search rules) c.place.ensures)

@@ -1,25 +1,27 @@
-use Rattle.std.proofs.Common.{ap, sym, ◌∙◌}
-use Rattle.read.specs.Paper.{answer_of}
-use Rattle.read.specs.declared.Reading.{Reading}
+use Rattle.std.proofs.Common.{ap, sym, refl, false, ◌∙◌, ◌≡◌}
+use Rattle.std.specs.Prelude.{ℕ, Result, Option, Some, None}
+use Rattle.record.specs.declared.Record.{Record}
+use Rattle.read.specs.declared.Refused.{Refused}
+use Rattle.read.specs.Paper.{placed, answer_of}
 use Rattle.last.specs.Last.{has_destination}
 use Rattle.last.specs.LastLaws.{line_has}
 use Rattle.last.proofs.line_has.Goals as goal
 
-pub returns-in-Record : goal.returns-in-Record
-returns-in-Record c =
+pub returns-in-Ok : goal.returns-in-Ok
+returns-in-Ok c =
     c.has_word.ensures
     ∙ sym
     (line_has _ _ _ c.read.ensures
-    ∙ ap (λ (x : Reading). has_destination c.args.n (answer_of x)) c.in-Record.is)
+    ∙ ap (λ (x : Result Record Refused). has_destination c.args.n (answer_of x)) c.in-Ok.is)
 
-pub returns-in-Refused : goal.returns-in-Refused
-returns-in-Refused c =
+-- a refused line has none, with a place or without
+none_of : (n k : ℕ) (p : Option ℕ) → has_destination n (placed k p) ≡ false
+none_of n k None = refl
+none_of n k (Some p) = refl
+
+pub returns-in-Err : goal.returns-in-Err
+returns-in-Err c =
     sym
     (line_has _ _ _ c.read.ensures
-    ∙ ap (λ (x : Reading). has_destination c.args.n (answer_of x)) c.in-Refused.is)
-
-pub returns-in-RefusedAt : goal.returns-in-RefusedAt
-returns-in-RefusedAt c =
-    sym
-    (line_has _ _ _ c.read.ensures
-    ∙ ap (λ (x : Reading). has_destination c.args.n (answer_of x)) c.in-RefusedAt.is)
+    ∙ ap (λ (x : Result Record Refused). has_destination c.args.n (answer_of x)) c.in-Err.is
+    ∙ none_of c.args.n _ c.in-Err.field-0.place)

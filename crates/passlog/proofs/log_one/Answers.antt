@@ -7,4 +7,5 @@ use Rattle.passlog.proofs.log_one.Goals as goal
 pub returns : goal.returns
 returns c =
     let q : c.until-end.result - c.args.from ≡ length_to line_feed (drop c.args.from c.args.input.now) = omega (arith, c.until-end.ensures.0) in
-    rw (c.wrapping_add_u64.ensures.value, c.until-end.ensures.0) (line_logged c.requires.0 c.requires.1 c.requires.2 (search rules) (rw q at c.put_line-p.ensures))
+    let p = rw q at c.put_line-p.ensures in
+    rw c.until-end.ensures.0 (line_logged c.requires.0 c.requires.1 c.requires.2 (search rules) p)

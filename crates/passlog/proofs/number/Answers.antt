@@ -1,9 +1,16 @@
-use Rattle.std.proofs.Common.{rules}
-use Rattle.passlog.specs.StepLaws.{number_next, number_end}
+use Rattle.std.proofs.Common.{◌≡◌, ◌+◌, ◌*◌, ◌%◌, ◌∙◌, ℕ, List, [], ◌∷◌, refl, rules}
+use Rattle.std.specs.List.{fold}
+use Rattle.rules.specs.Numbers.{word_size}
+use Rattle.passlog.specs.Spelling.{digit_of, number_from}
 use Rattle.passlog.proofs.number.Goals as goal
 
-pub loop-i-preserved : goal.loop-i-preserved
-loop-i-preserved c = (search rules, rw c.with_digit-v.ensures (number_next _ _ _ _ _ c.loop-i-test.true c.loop-i.invariant.1))
+-- the digits one by one, in std's words
+folded : (base v : ℕ) (s : List ℕ) → fold (λ x b. (x * base + digit_of b) % word_size) v s ≡ number_from base v s
+unfolding number_from
+folded base v [] = refl
+folded base v (b ∷ s) = folded base ((v * base + digit_of b) % word_size) s
 
 pub returns : goal.returns
-returns c = number_end _ _ _ _ _ c.loop-i-test.false c.loop-i.invariant.1
+returns c =
+    let e : c.fold.result ≡ fold (λ x b. (x * c.args.base + digit_of b) % word_size) 0 c.args.s.now = search rules in
+    e ∙ folded c.args.base 0 c.args.s.now

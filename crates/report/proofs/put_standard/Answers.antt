@@ -5,12 +5,12 @@ use Rattle.report.proofs.Laws.{wrote_within, wrote_text, refused_text_lem}
 use Rattle.report.proofs.put_standard.Goals as goal
 
 pub slice_bounds-put-end : goal.slice_bounds-put-end
-slice_bounds-put-end c = omega (arith, wrote_within _ _ _ refl _ (rw c.in-Length.is at c.write.ensures))
+slice_bounds-put-end c = omega (arith, wrote_within _ _ _ refl _ (rw c.in-Ok.is at c.write.ensures))
 
-pub returns-in-Length : goal.returns-in-Length
-returns-in-Length c =
-    let e = rw c.in-Length.is at c.write.ensures in
+pub returns-in-Ok : goal.returns-in-Ok
+returns-in-Ok c =
+    let e = rw c.in-Ok.is at c.write.ensures in
     rw (sub-zero, wrote_text _ _ _ refl _ e) at c.put.ensures
 
-pub returns-in-Refused : goal.returns-in-Refused
-returns-in-Refused c = rw (← refused_text_lem _ _ _ refl _ (rw c.in-Refused.is at c.write.ensures)) (same _)
+pub returns-in-Err : goal.returns-in-Err
+returns-in-Err c = rw (← refused_text_lem _ _ _ refl _ (rw c.in-Err.is at c.write.ensures)) (same _)
