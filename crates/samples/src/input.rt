@@ -1,44 +1,64 @@
 // Lines, tokens and numbers of the data.
-ghost use Rattle.std.specs.Prelude.{◌≤◌, length};
+ghost use Rattle.std.specs.Prelude.{length};
+ghost use Rattle.std.specs.Iterator.{at_most};
 
-// 0 past the end, so that no caller has to know the length.
-pub(crate) fn byte(s: &[u8], k: usize) -> u8 {
-    if k < s.len() {
-        return s[k];
-    }
-    0
+// The parts of a text that a byte ends, and what stands behind the last of these, if anything does: std's `split` would
+// give an empty part there too.
+#[derive(Clone, Copy)]
+pub(crate) struct Parts<'a> {
+    left: &'a [u8],
+    end: u8,
 }
 
-// Where b next stands in s at or after k, or the end.
-pub(crate) fn next(s: &[u8], k: usize, b: u8) -> usize
-    requires { k ≤ length s.now }
-    ensures { (k ≤ result) × (result ≤ length s.now) }
-{
-    let mut i = k;
-    while i < s.len() {
-        if s[i] == b {
-            return i;
+impl<'a> Iterator for Parts<'a> {
+    type Item = &'a [u8];
+
+    ghost remaining = { λ s. at_most (length s.left.now) };
+
+    fn next(&mut self) -> Option<&'a [u8]> {
+        let left = self.left;
+        let end = self.end;
+        if left.is_empty() {
+            return None;
         }
-        i += 1;
+        match left.iter().position(|b| *b == end) {
+            Some(n) => {
+                self.left = &left[n + 1..];
+                Some(&left[..n])
+            }
+            None => {
+                self.left = &[];
+                Some(left)
+            }
+        }
     }
-    i
+}
+
+pub(crate) fn lines(s: &[u8]) -> Parts<'_> {
+    Parts {
+        left: s,
+        end: b'\n',
+    }
+}
+
+// What stands behind a line's letter.
+pub(crate) fn tokens(line: &[u8]) -> Parts<'_> {
+    Parts {
+        left: line.get(2..).unwrap_or(&[]),
+        end: b' ',
+    }
 }
 
 // What 64 bits have no room for is lost.
+// Not one with passlog's, of 32 bits and any base, which is no plainer: a law of the width for one line.
 fn with_digit(x: u64, b: u8) -> u64 {
     let digit = (b % 16 + b / 64 * 9) % 16;
-    x % 0x1000000000000000 * 16 + digit as u64
+    x << 4 | digit as u64
 }
 
 // A hexadecimal number.
-pub(crate) fn number(s: &[u8], from: usize, to: usize) -> u64 {
-    let mut x = 0;
-    let mut i = from;
-    while i < to {
-        x = with_digit(x, byte(s, i));
-        i += 1;
-    }
-    x
+pub(crate) fn number(digits: &[u8]) -> u64 {
+    digits.iter().fold(0, |x, b| with_digit(x, *b))
 }
 
 // What the three digits of a number are in decimal.

@@ -2,87 +2,60 @@
 // how, and what is answered.
 #![tactic(auto)]
 
+ghost use Rattle.std.specs.Prelude.{◌≤◌};
+
 mod input;
 mod records;
 mod runs;
 mod writing;
 
+use std::io::{Write, writer};
+
 // More than any data has: an input that fills it may be longer.
 const INPUT: usize = 1048576;
 
-pub(crate) fn say(rt: &impl Print, s: &[u8]) {
-    streams::write_all(&mut std::io::writer(rt), s);
-}
+// A line `V` has so many values at most.
+const VALUES: usize = 32;
 
-pub(crate) fn say_byte(rt: &impl Print, b: u8) {
-    say(rt, &[b]);
-}
-
-pub(crate) fn print_number(rt: &impl Print, n: u64) {
-    let _ = print!(rt; "{n}");
-}
-
-// The values of a line `V`.
-#[derive(Clone, Copy)]
-pub(crate) struct Values {
-    pub(crate) count: usize,
-    pub(crate) list: [u64; 32],
-}
-
-fn values_of(line: &[u8]) -> Values {
-    let mut list = [0u64; 32];
+// The values of a line `V`; how many. What is too many begins again at the front.
+fn read_values(line: &[u8], values: &mut [u64; VALUES]) -> usize
+    ensures { result ≤ VALUES }
+{
     let mut count = 0;
-    let mut at = 2;
-    while at < line.len() {
-        let end = input::next(line, at, b' ');
-        list[count % 32] = input::number(line, at, end);
-        count = count % 32 + 1;
-        at = end + 1;
+    for token in input::tokens(line) {
+        values[count % VALUES] = input::number(token);
+        count = count % VALUES + 1;
     }
-    Values {
-        count: count,
-        list: list,
-    }
+    count
 }
 
-fn answer_lines(rt: &impl Print, s: &[u8]) {
-    let mut record = records::no_fields();
-    let mut values = Values {
-        count: 0,
-        list: [0u64; 32],
-    };
-    let mut at = 0;
-    while at < s.len() {
-        let end = input::next(s, at, b'\n');
-        let line = &s[at..end];
-        match input::byte(line, 0) {
-            b'R' => {
-                record = records::fields_of(line);
-                writing::answer_record(rt, record);
+fn answer_lines(out: &mut impl Write, s: &[u8]) {
+    // Before the first line `R` all numbers are 0.
+    let mut record = records::record_of(b"");
+    // An array and a count: there is no heap.
+    let mut values = [0u64; VALUES];
+    let mut count = 0;
+    for line in input::lines(s) {
+        match line {
+            [b'R', ..] => {
+                record = records::record_of(line);
+                writing::answer_record(out, record);
             }
-            b'V' => {
-                values = values_of(line);
-            }
-            b'X' => {
-                runs::answer_runs(rt, line, record, values);
-            }
+            [b'V', ..] => count = read_values(line, &mut values),
+            [b'X', ..] => runs::answer_runs(out, line, record, &values[..count]),
             _ => {}
         }
-        at = end + 1;
     }
-}
-
-fn say_too_long(rt: &impl Print) {
-    say(rt, b"input too long\n");
 }
 
 fn answer_data(rt: &(impl Input + Print), data: &mut [u8]) {
     let n = streams::read_full(&mut rt.reader(), data);
+    let mut out = writer(rt);
     if n < data.len() {
-        answer_lines(rt, &data[0..n]);
-        return;
+        answer_lines(&mut out, &data[..n]);
+    } else {
+        streams::write_all(&mut out, b"input too long\n");
     }
-    say_too_long(rt);
 }
 
 // By an array, not a slice: its length is then known without counting a million bytes in the proof.

@@ -1,5 +1,7 @@
 // The record that a line `R` spells.
-use crate::input::{decimal, next, number};
+ghost use Rattle.std.specs.Prelude.{◌≤◌, ◌<◌, length};
+
+use crate::input::{decimal, number, tokens};
 use record::{
     Arith, BoolOp, Choice, Cmp6, CmpF, CmpOp, CmpU, Combination, Comparison, Condition, DataType,
     Destination, Digits, Double, Form, Guard, Half, Instruction, LaneArith, LaneWidth, Lanes, Mask,
@@ -8,118 +10,55 @@ use record::{
 
 // ---- the numbers of a line
 
-// The first three numbers, of which count are read, and the last twenty: t1 is the last. What kinds share stands at the
-// end of a line.
+const FIRST: usize = 3;
+
+const LAST: usize = 20;
+
+// The first three numbers, and the last twenty: what kinds share stands at the end of a line. Where there are fewer,
+// zeros stand in front.
 #[derive(Clone, Copy)]
-pub(crate) struct Fields {
-    count: u8,
-    guard: u16,
-    gp: u16,
-    kind: u16,
-    t20: u16,
-    t19: u16,
-    t18: u16,
-    t17: u16,
-    t16: u16,
-    t15: u16,
-    t14: u16,
-    t13: u16,
-    t12: u16,
-    t11: u16,
-    t10: u16,
-    t9: u16,
-    t8: u16,
-    t7: u16,
-    t6: u16,
-    t5: u16,
-    t4: u16,
-    t3: u16,
-    t2: u16,
-    t1: u16,
+struct Fields {
+    first: [u16; FIRST],
+    last: [u16; LAST],
 }
 
-pub(crate) fn no_fields() -> Fields {
-    Fields {
-        count: 0,
-        guard: 0,
-        gp: 0,
-        kind: 0,
-        t20: 0,
-        t19: 0,
-        t18: 0,
-        t17: 0,
-        t16: 0,
-        t15: 0,
-        t14: 0,
-        t13: 0,
-        t12: 0,
-        t11: 0,
-        t10: 0,
-        t9: 0,
-        t8: 0,
-        t7: 0,
-        t6: 0,
-        t5: 0,
-        t4: 0,
-        t3: 0,
-        t2: 0,
-        t1: 0,
-    }
+// A number behind the others, and the one at the front is gone.
+fn push(numbers: &mut [u16], x: u16)
+    requires { 0 < length numbers.old }
+{
+    numbers[0] = x;
+    numbers.rotate_left(1);
 }
 
-fn with_last(f: Fields, x: u16) -> Fields {
-    Fields {
-        count: f.count,
-        guard: f.guard,
-        gp: f.gp,
-        kind: f.kind,
-        t20: f.t19,
-        t19: f.t18,
-        t18: f.t17,
-        t17: f.t16,
-        t16: f.t15,
-        t15: f.t14,
-        t14: f.t13,
-        t13: f.t12,
-        t12: f.t11,
-        t11: f.t10,
-        t10: f.t9,
-        t9: f.t8,
-        t8: f.t7,
-        t7: f.t6,
-        t6: f.t5,
-        t5: f.t4,
-        t4: f.t3,
-        t3: f.t2,
-        t2: f.t1,
-        t1: x,
+fn fields_of(line: &[u8]) -> Fields {
+    let mut first = [0; FIRST];
+    let mut last = [0; LAST];
+    for (k, token) in tokens(line).enumerate() {
+        let x = decimal(number(token));
+        if k < FIRST {
+            push(&mut first, x);
+        } else {
+            push(&mut last, x);
+        }
     }
+    Fields { first, last }
 }
 
-fn with_number(f: Fields, x: u16) -> Fields {
-    if f.count == 3 {
-        return with_last(f, x);
+impl Fields {
+    // The last N numbers.
+    fn last<const N: usize>(&self) -> [u16; N]
+        requires { N ≤ LAST }
+    {
+        let mut numbers = [0; N];
+        numbers.copy_from_slice(&self.last[LAST - N..]);
+        numbers
     }
-    let mut next = f;
-    next.count = f.count % 3 + 1;
-    next.guard = f.gp;
-    next.gp = f.kind;
-    next.kind = x;
-    next
-}
-
-pub(crate) fn fields_of(line: &[u8]) -> Fields {
-    let mut f = no_fields();
-    let mut at = 2;
-    while at < line.len() {
-        let end = next(line, at, b' ');
-        f = with_number(f, decimal(number(line, at, end)));
-        at = end + 1;
-    }
-    f
 }
 
 // ---- one number
+
+// A free function for each type, here and below, of the data's numbers (second/SAMPLES.md): `impl From<u16>` for a
+// type of another crate is refused, as in Rust.
 
 fn video_type(n: u16) -> VideoType {
     match n {
@@ -201,29 +140,25 @@ fn op2(n: u16) -> Op2 {
     }
 }
 
-fn form(n: u16, d: u16, x: u16, c: u16) -> Form {
+fn form(n: u16, d: Word, x: u16, c: Word) -> Form {
     match n {
-        0 => Form::Plain { d: Word(d) },
+        0 => Form::Plain { d },
         1 => Form::Merge {
-            d: Word(d),
+            d,
             sel: selector(x),
-            c: Word(c),
+            c,
         },
-        _ => Form::Combine {
-            op: op2(x),
-            d: Word(d),
-            c: Word(c),
-        },
+        _ => Form::Combine { op: op2(x), d, c },
     }
 }
 
-fn scalar(f: Fields) -> Scalar {
+fn scalar([atype, btype, n, d, x, c, asel, a, bsel, b]: [u16; 10]) -> Scalar {
     Scalar {
-        atype: video_type(f.t10),
-        btype: video_type(f.t9),
-        form: form(f.t8, f.t7, f.t6, f.t5),
-        a: selected(f.t4, f.t3),
-        b: selected(f.t2, f.t1),
+        atype: video_type(atype),
+        btype: video_type(btype),
+        form: form(n, Word(d), x, Word(c)),
+        a: selected(asel, a),
+        b: selected(bsel, b),
     }
 }
 
@@ -255,28 +190,31 @@ fn mask(m: u16) -> Mask {
     }
 }
 
-fn digits(a: u16, b: u16, c: u16, d: u16) -> Digits {
+fn digits(digits: [u16; 4]) -> Digits {
+    let [lane0, lane1, lane2, lane3] = digits.map(|n| (n % 256) as u8);
     Digits {
-        lane0: (a % 256) as u8,
-        lane1: (b % 256) as u8,
-        lane2: (c % 256) as u8,
-        lane3: (d % 256) as u8,
+        lane0,
+        lane1,
+        lane2,
+        lane3,
     }
 }
 
-fn lanes(f: Fields) -> Lanes {
+fn lanes(fields: Fields) -> Lanes {
+    let [width, atype, btype, add, d, named, ..] = fields.last::<17>();
+    let [a, a0, a1, a2, a3, b, b0, b1, b2, b3, c] = fields.last::<11>();
     Lanes {
-        width: lane_width(f.t17),
-        atype: video_type(f.t16),
-        btype: video_type(f.t15),
-        add: f.t14 == 1,
-        d: Word(f.t13),
-        mask: mask(f.t12),
-        a: Word(f.t11),
-        asel: digits(f.t10, f.t9, f.t8, f.t7),
-        b: Word(f.t6),
-        bsel: digits(f.t5, f.t4, f.t3, f.t2),
-        c: Word(f.t1),
+        width: lane_width(width),
+        atype: video_type(atype),
+        btype: video_type(btype),
+        add: add == 1,
+        d: Word(d),
+        mask: mask(named),
+        a: Word(a),
+        asel: digits([a0, a1, a2, a3]),
+        b: Word(b),
+        bsel: digits([b0, b1, b2, b3]),
+        c: Word(c),
     }
 }
 
@@ -301,11 +239,7 @@ fn operand(file: u16, n: u16) -> Operand {
     }
 }
 
-fn combination(n: u16, inverted: bool, pred: Pred) -> Combination {
-    let c = Condition {
-        inverted: inverted,
-        pred: pred,
-    };
+fn combination(n: u16, c: Condition) -> Combination {
     match n {
         0 => Combination::Alone,
         1 => Combination::With(BoolOp::And, c),
@@ -314,14 +248,18 @@ fn combination(n: u16, inverted: bool, pred: Pred) -> Combination {
     }
 }
 
-fn comparison(f: Fields) -> Comparison {
+fn comparison([cmp, op, inverted, c, ftz, stype, afile, a, bfile, b]: [u16; 10]) -> Comparison {
+    let condition = Condition {
+        inverted: inverted == 1,
+        pred: Pred(c),
+    };
     Comparison {
-        cmp: cmp_op(f.t10),
-        combination: combination(f.t9, f.t8 == 1, Pred(f.t7)),
-        ftz: f.t6 == 1,
-        stype: data_type(f.t5),
-        a: operand(f.t4, f.t3),
-        b: operand(f.t2, f.t1),
+        cmp: cmp_op(cmp),
+        combination: combination(op, condition),
+        ftz: ftz == 1,
+        stype: data_type(stype),
+        a: operand(afile, a),
+        b: operand(bfile, b),
     }
 }
 
@@ -344,12 +282,12 @@ fn destination(n: u16, p: u16, q: u16) -> Destination {
 
 // ---- selp slct
 
-fn choice(f: Fields) -> Choice {
+fn choice([dtype, dfile, d, afile, a, bfile, b, _]: [u16; 8]) -> Choice {
     Choice {
-        dtype: data_type(f.t8),
-        d: operand(f.t7, f.t6),
-        a: operand(f.t5, f.t4),
-        b: operand(f.t3, f.t2),
+        dtype: data_type(dtype),
+        d: operand(dfile, d),
+        a: operand(afile, a),
+        b: operand(bfile, b),
     }
 }
 
@@ -373,78 +311,78 @@ fn guard(n: u16, p: u16) -> Guard {
     }
 }
 
-fn video(f: Fields) -> Instruction {
-    let kind = f.kind;
+fn instruction(kind: u16, fields: Fields) -> Instruction {
     match kind {
         0 => {
-            return Instruction::Arithmetic {
-                op: arith(f.t13),
-                dtype: video_type(f.t12),
-                sat: f.t11 == 1,
-                scalar: scalar(f),
-            };
+            let [op, dtype, sat, ..] = fields.last::<13>();
+            Instruction::Arithmetic {
+                op: arith(op),
+                dtype: video_type(dtype),
+                sat: sat == 1,
+                scalar: scalar(fields.last()),
+            }
         }
         1 => {
-            return Instruction::Vset {
-                cmp: cmp6(f.t11),
-                scalar: scalar(f),
-            };
+            let [cmp, ..] = fields.last::<11>();
+            Instruction::Vset {
+                cmp: cmp6(cmp),
+                scalar: scalar(fields.last()),
+            }
         }
         2 => {
-            return Instruction::VsetLanes {
-                cmp: cmp6(f.t18),
-                lanes: lanes(f),
-            };
+            let [cmp, ..] = fields.last::<18>();
+            Instruction::VsetLanes {
+                cmp: cmp6(cmp),
+                lanes: lanes(fields),
+            }
         }
-        _ => {
-            return Instruction::ArithmeticLanes {
-                op: lane_arith(f.t20),
-                dtype: video_type(f.t19),
-                sat: f.t18 == 1,
-                lanes: lanes(f),
-            };
-        }
-    }
-}
-
-fn instruction(f: Fields) -> Instruction {
-    let kind = f.kind;
-    match kind {
         3 => {
-            return Instruction::Set {
-                dtype: set_type(f.t12),
-                d: Word(f.t11),
-                comparison: comparison(f),
-            };
+            let [dtype, d, ..] = fields.last::<12>();
+            Instruction::Set {
+                dtype: set_type(dtype),
+                d: Word(d),
+                comparison: comparison(fields.last()),
+            }
         }
         4 => {
-            return Instruction::Setp {
-                d: destination(f.t13, f.t12, f.t11),
-                comparison: comparison(f),
-            };
+            let [form, p, q, ..] = fields.last::<13>();
+            Instruction::Setp {
+                d: destination(form, p, q),
+                comparison: comparison(fields.last()),
+            }
         }
         5 => {
-            return Instruction::Selp {
-                choice: choice(f),
-                c: Pred(f.t1),
-            };
+            let [.., c] = fields.last::<8>();
+            Instruction::Selp {
+                choice: choice(fields.last()),
+                c: Pred(c),
+            }
         }
         6 => {
-            return Instruction::Slct {
-                ctype: slct_type(f.t9),
-                choice: choice(f),
-                c: Word(f.t1),
-            };
+            let [ctype, .., c] = fields.last::<9>();
+            Instruction::Slct {
+                ctype: slct_type(ctype),
+                choice: choice(fields.last()),
+                c: Word(c),
+            }
         }
         _ => {
-            return video(f);
+            let [op, dtype, sat, ..] = fields.last::<20>();
+            Instruction::ArithmeticLanes {
+                op: lane_arith(op),
+                dtype: video_type(dtype),
+                sat: sat == 1,
+                lanes: lanes(fields),
+            }
         }
     }
 }
 
-pub(crate) fn record_of(f: Fields) -> Record {
+pub(crate) fn record_of(line: &[u8]) -> Record {
+    let fields = fields_of(line);
+    let [n, p, kind] = fields.first;
     Record {
-        guard: guard(f.guard, f.gp),
-        instruction: instruction(f),
+        guard: guard(n, p),
+        instruction: instruction(kind, fields),
     }
 }

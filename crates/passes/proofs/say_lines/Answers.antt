@@ -1,19 +1,18 @@
-use Rattle.std.proofs.Common.{rules, arith}
+use Rattle.std.proofs.Common.{◌≤◌, length, arith}
+use Rattle.passlog.specs.Steps.{line_room}
 use Rattle.passlog.specs.OutputLaws.{none_called, called, call_goes_on, told}
 use Rattle.passes.proofs.say_lines.Goals as goal
 
 pub loop-at-init : goal.loop-at-init
-loop-at-init g c = (search rules, search rules, rw c.empty-t.ensures (none_called _ _))
+loop-at-init g c = rw c.empty-t.ensures (none_called _ _)
 
 pub loop-at-smaller : goal.loop-at-smaller
-loop-at-smaller g c = omega (arith, call_goes_on c.loop-at-test.true c.loop-at.invariant.0 c.log_line-p.ensures.step)
+loop-at-smaller g c =
+    let room : line_room ≤ length c.loop-at.out = omega arith in
+    omega (arith, call_goes_on c.loop-at-test.true room c.log_line-p.ensures.step)
 
 pub loop-at-preserved : goal.loop-at-preserved
-loop-at-preserved g c = (
-  search rules,
-  search rules,
-  called c.loop-at.invariant.2 c.loop-at-test.true c.loop-at.invariant.0 c.log_line-p.ensures,
-)
+loop-at-preserved g c = called c.loop-at.invariant c.loop-at-test.true (omega arith) c.log_line-p.ensures
 
 pub returns : goal.returns
-returns g c = λ _. told c.loop-at.invariant.2 c.loop-at-test.false
+returns g c = told c.loop-at.invariant c.loop-at-test.false

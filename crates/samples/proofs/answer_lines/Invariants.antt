@@ -1,5 +1,5 @@
-use Rattle.std.proofs.Common.{length, ◌-◌}
+use Rattle.std.proofs.Common.{◌≤◌}
 use Rattle.samples.proofs.answer_lines.Given as goal
 
-abbrev pub decreases-loop-at : goal.decreases-loop-at
-decreases-loop-at g l = length l.s - l.at
+abbrev pub invariant-loop-line : goal.invariant-loop-line
+invariant-loop-line g l = l.count ≤ 32
