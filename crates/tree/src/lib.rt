@@ -13,6 +13,7 @@ pub enum Place {
 }
 
 // A place of a pair: a register or `_`.
+// Not Option: `_` is written, not missing, and `Spot` of rules/specs/Shape has the same two cases.
 #[derive(Clone, Copy)]
 pub enum Spot {
     At(Place),
@@ -34,6 +35,7 @@ pub struct Slot {
 }
 
 // How many operands the line has, and the first five.
+// No heap; n counts those that are not kept, too. One type with Head would be no plainer: they share two fields only.
 #[derive(Clone, Copy)]
 pub struct Operands {
     pub n: usize,
@@ -41,12 +43,14 @@ pub struct Operands {
 }
 
 // How many names the head has, and the first eight, as numbers.
+// The same holds of n and of one type here. Why names are numbers: base::RADIX.
 #[derive(Clone, Copy)]
 pub struct Head {
     pub n: usize,
     pub at: [u64; 8],
 }
 
+// Not Option: `guard_in` and `guard_good` (specs/Mirror of read and places) go by the two names.
 #[derive(Clone, Copy)]
 pub enum Guarding {
     Unguarded,
