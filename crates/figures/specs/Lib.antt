@@ -4,3 +4,4 @@ pub mod Answered
 pub mod LaneFigures
 pub mod Printed
 pub mod CardFigures
+pub mod TurnsApart
