@@ -1,7 +1,8 @@
 -- One turn of the scanner apart from the names and operands that it leaves, and that a whole line is read to its end. Laws of crate shape that its code
 -- needs no longer.
 use Rattle.std.specs.Prelude.{ℕ, ◌≤◌, ◌≡◌, refl, List, Bool, true, false, cond, eqb, ltb, length, drop, is_ok, Result, Ok, Err}
-use Rattle.std.proofs.Common.{arith, ap, ltb-false}
+use Rattle.std.proofs.Common.{arith, ap, sym, ltb-false}
+use Rattle.base.specs.Pairs.{ok_pair}
 use Rattle.signs.specs.Bytes.{is_blank}
 use Rattle.scan.specs.Runs.{run_length, capped_sum}
 use Rattle.tree.specs.declared.Head.{Head}
@@ -78,14 +79,19 @@ bad_apart st q w = refl
 
 -- ==== the end of a whole line
 
-never : {A : Type 0} (k : ℕ) (y : Parts) → ◌≡◌ {A = Result Parts ℕ} (Err k) (Ok y) → A
-never k y e = let z : false ≡ true = ap is_ok e in let n : ◌≡◌ {A = ℕ} 0 1 = cc in absurd (omega arith)
+never : {A : Type 0} (k n : ℕ) (y : Parts) → ◌≡◌ {A = Result (Parts × ℕ) ℕ} (Err k) (Ok (y, n)) → A
+never k n y e = let z : false ≡ true = ap is_ok e in let m : ◌≡◌ {A = ℕ} 0 1 = cc in absurd (omega arith)
 
--- behind its semicolon it is blank to the end: the place to which it is read is its length
-pub end_reached : (p : ℕ) (x y : Parts) (w : List ℕ) → from_end p x w ≡ Ok y → length w ≤ run_length is_blank w
+-- behind its semicolon it is blank to the end, and the place to which it is read is behind these blanks
+pub end_reached : (p n : ℕ) (x y : Parts) (w : List ℕ) → from_end p x w ≡ Ok (y, n)
+    → (length w ≤ run_length is_blank w) × (n ≡ capped_sum p (run_length is_blank w))
 unfolding from_end
-end_reached p x y w e = go (ltb (run_length is_blank w) (length w)) refl e
+end_reached p n x y w e = go (ltb (run_length is_blank w) (length w)) refl e
   where
-    go : (b : Bool) → ltb (run_length is_blank w) (length w) ≡ b → cond b (stopped_at (capped_sum p (run_length is_blank w))) (Ok x) ≡ Ok y → length w ≤ run_length is_blank w
-    go true h f = never _ y f
-    go false h f = ltb-false (run_length is_blank w) (length w) h
+    end : ℕ
+    end = capped_sum p (run_length is_blank w)
+
+    go : (b : Bool) → ltb (run_length is_blank w) (length w) ≡ b → cond b (stopped_at end) (Ok (x, end)) ≡ Ok (y, n)
+        → (length w ≤ run_length is_blank w) × (n ≡ end)
+    go true h f = never _ n y f
+    go false h f = (ltb-false (run_length is_blank w) (length w) h, sym (ok_pair f).1)

@@ -120,7 +120,10 @@ fn no_parts() -> Parts
 fn shaped_place(n: u8, line: &[u8]) -> usize
     ensures { result ≡ parts_place_of n line.now (parts_of (shape_of line.now)) }
 {
-    parts_place(n, line, shape::shape(line).unwrap_or(no_parts()))
+    match shape::shape(line) {
+        Ok((parts, _)) => parts_place(n, line, parts),
+        Err(_) => parts_place(n, line, no_parts()),
+    }
 }
 
 // The place of refusal n of a line that gets it; of another line it says nothing.

@@ -133,7 +133,7 @@ fn judge(target: Target, mode: Mode, line: &[u8]) -> Result<Record, Refusal>
         return Err(Refusal::LineTooLong);
     }
     match shape::shape(line) {
-        Ok(parts) => from_parts(target, mode, parts),
+        Ok((parts, _)) => from_parts(target, mode, parts),
         Err(_) => Err(Refusal::NoShape),
     }
 }

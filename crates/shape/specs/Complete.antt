@@ -13,7 +13,7 @@ use Rattle.tree.specs.declared.Head.{Head}
 use Rattle.tree.specs.declared.Operands.{Operands}
 use Rattle.tree.specs.declared.Parts.{Parts}
 use Rattle.scan.specs.Runs.{run_length, capped_sum}
-use Rattle.scan.specs.RunLaws.{Stops, run_all_lem}
+use Rattle.scan.specs.RunLaws.{Stops, run_all_lem, sum_is}
 use Rattle.shape.specs.Head.{head_of as head_at}
 use Rattle.shape.specs.Operands.{operands_scanned}
 use Rattle.shape.specs.OperandLaws.{operand_first}
@@ -25,7 +25,7 @@ use Rattle.shape.specs.Line.{Scanned, parts_of, stopped_at, from_end, from_opera
 
 -- ---- each stage, where it finds what it should
 
-after_blanks : (p : ℕ) (x : Parts) (b : List ℕ) → All is_blank b → from_end p x b ≡ Ok x
+after_blanks : (p : ℕ) (x : Parts) (b : List ℕ) → All is_blank b → from_end p x b ≡ Ok (x, capped_sum p (length b))
 unfolding from_end
 after_blanks p x b a =
     let e : run_length is_blank b ≡ length b = ap (run_length is_blank) (sym (append-nil b)) ∙ run_all_lem is_blank [] a refl in
@@ -81,7 +81,9 @@ past_list e f g h =
     let q : e ++ (f ++ (g ++ (59 ∷ h))) ≡ a ++ h = simp append_assoc in
     ap (λ (n : ℕ). drop n (e ++ (f ++ (g ++ (59 ∷ h))))) (sym l) ∙ ap (drop (length a)) q ∙ drop-append_seam a h
 
-pub shape_is : (t : LineTree) → Good t → length (line_text t) ≤ 160 → shape_of (line_text t) ≡ Ok (seen t)
+-- the line is read to its end
+pub shape_is : (t : LineTree) → Good t → length (line_text t) ≤ 160
+    → shape_of (line_text t) ≡ Ok (seen t, length (line_text t))
 shape_is t good m = whole
   where
     guard : List ℕ
@@ -132,7 +134,16 @@ shape_is t good m = whole
     h : Head
     h = seen_head (t.opcode ∷ t.modifiers)
 
-    whole : shape_of (line_text t) ≡ Ok (seen t)
+    reached : capped_sum place (length t.behind) ≡ length (line_text t)
+    reached =
+        let s = line_length t.before guard head t.gap operand others t.ending t.behind in
+        let a : p1 ≡ length t.before + length guard = sum_is _ _ (omega (arith, small)) in
+        let b : p2 ≡ p1 + length head = sum_is _ _ (omega (arith, small, a)) in
+        let c : capped_sum p2 (length t.gap) ≡ p2 + length t.gap = sum_is _ _ (omega (arith, small, a, b)) in
+        let d : place ≡ capped_sum p2 (length t.gap) + n = sum_is _ _ (omega (arith, small, a, b, c)) in
+        sum_is place (length t.behind) (omega (arith, small, a, b, c, d)) ∙ omega (arith, s, a, b, c, d)
+
+    whole : shape_of (line_text t) ≡ Ok (seen t, length (line_text t))
     whole =
         ap shape_of (line_joined t.before guard head t.gap operand others t.ending t.behind)
         ∙ after_before t.before (guard ++ text_from_head) good.before (guard_first t.guard text_from_head first_byte)
@@ -146,6 +157,7 @@ shape_is t good m = whole
         (operands_complete t.first t.others t.ending t.behind good.first good.others good.ending (omega (arith, small)))
         ∙ ap (from_end place (seen t)) (past_list operand others t.ending t.behind)
         ∙ after_blanks place (seen t) t.behind good.behind
+        ∙ ap (λ (k : ℕ). Ok (seen t, k)) reached
 
 pub shape_complete : (t : LineTree) → Good t → length (line_text t) ≤ 160 → (is_ok (shape_of (line_text t)) ≡ true) × (parts_of (shape_of (line_text t)) ≡ seen t)
 shape_complete t good m = let e = shape_is t good m in (ap is_ok e, ap parts_of e)

@@ -1,6 +1,5 @@
 -- The parts of a line, as the scanner finds them.
 use Rattle.std.specs.Prelude.{ℕ, ◌≡◌, refl, List, Bool, true, false, cond, eqb, ltb, length, drop, Err, Ok, Result}
-use Rattle.std.specs.Result.{result_unwrap_or}
 use Rattle.signs.specs.Bytes.{is_blank}
 use Rattle.tree.specs.declared.Guarding.{Guarding}
 use Rattle.tree.specs.declared.Guarding.TheVariants.{Unguarded}
@@ -15,19 +14,23 @@ use Rattle.shape.specs.Guard.{guard_of}
 abbrev pub no_parts : Parts
 no_parts = record { guard = Unguarded; head = no_head; operands = no_operands }
 
--- the parts of a line that has the shape; or the place of the first byte that is wrong
+-- the parts of a line that has the shape, and how far it was read; or how far it has the shape
 abbrev pub Scanned : Type 0
-Scanned = Result Parts ℕ
+Scanned = Result (Parts × ℕ) ℕ
 
 -- the parts, none of a line that has not the shape
 abbrev pub parts_of : Scanned → Parts
-parts_of s = result_unwrap_or s no_parts
+parts_of (Ok (x, n)) = x
+parts_of (Err p) = no_parts
 
 abbrev pub stopped_at : ℕ → Scanned
 stopped_at place = Err place
 
 unfoldable pub from_end : ℕ → Parts → List ℕ → Scanned
-from_end p parts w = let n = run_length is_blank w in cond (ltb n (length w)) (stopped_at (capped_sum p n)) (Ok parts)
+from_end p parts w =
+    let n = run_length is_blank w in
+    let end = capped_sum p n in
+    cond (ltb n (length w)) (stopped_at end) (Ok (parts, end))
 
 unfoldable pub from_operands : ℕ → Guarding → Head → List ℕ → Scanned
 from_operands p guard head w =

@@ -47,8 +47,11 @@ end_sound p x w e = go (ltb (run_length is_blank w) (length w)) refl e
     s : Split is_blank w
     s = split is_blank refl w
 
-    go : (t : Bool) → ltb (run_length is_blank w) (length w) ≡ t → is_ok (cond t (stopped_at (capped_sum p (run_length is_blank w))) (Ok x)) ≡ true
-        → EndAt w x (cond t (stopped_at (capped_sum p (run_length is_blank w))) (Ok x))
+    end : ℕ
+    end = capped_sum p (run_length is_blank w)
+
+    go : (t : Bool) → ltb (run_length is_blank w) (length w) ≡ t → is_ok (cond t (stopped_at end) (Ok (x, end))) ≡ true
+        → EndAt w x (cond t (stopped_at end) (Ok (x, end)))
     go true q f = not_so f
     go false q f =
         let l : length w ≡ length (s.front ++ s.back) = ap length s.whole in
@@ -211,5 +214,5 @@ shape_sound s m e =
     let x = split is_blank refl s in
     subst (λ (l : List ℕ). length l ≤ 160 → is_ok (shape_of l) ≡ true → ShapedAs l (parts_of (shape_of l))) (sym x.whole) (by_before x.front x.back x.all x.stops) m e
 
-pub shape_found : (s : List ℕ) (x : Parts) → length s ≤ 160 → shape_of s ≡ Ok x → ShapedAs s x
-shape_found s x m e = subst (ShapedAs s) (ap parts_of e) (shape_sound s m (ap is_ok e))
+pub shape_found : (s : List ℕ) (x : Parts) (n : ℕ) → length s ≤ 160 → shape_of s ≡ Ok (x, n) → ShapedAs s x
+shape_found s x n m e = subst (ShapedAs s) (ap parts_of e) (shape_sound s m (ap is_ok e))

@@ -12,7 +12,8 @@ ghost use Rattle.shape.specs.Line.{from_end, from_operands, shape_of};
 use scan::{Class, byte, further, name_code, read_register, rest, run_len};
 use tree::{Guarding, Head, Operands, Parts, Place, Slot, Spot, Tree};
 
-// What stands at the front of a slice, and how many bytes it takes; or the place of the first byte that is wrong.
+// What stands at the front of a slice, and how many bytes it takes; or how far it was read, to the first byte that is
+// wrong or past the last turn.
 pub type Read<T> = Result<(T, usize), usize>;
 
 // `!` and a register; or two places joined by `|`; or a register, optionally with `.` and a name.
@@ -199,8 +200,8 @@ fn guarded(negated: bool, n: u32, w: &[u8]) -> Read<Guarding>
     }
 }
 
-// The parts of a line that has the shape; or the place of the first byte that is wrong.
-pub type Scanned = Result<Parts, usize>;
+// The parts of a line that has the shape, and how far it was read; or how far it has the shape.
+pub type Scanned = Read<Parts>;
 
 // Optional blanks; optionally a guard and at least one blank; the head; at least one blank; operands; optional blanks;
 // `;`; optional blanks.
@@ -245,8 +246,9 @@ fn from_end(place: usize, parts: Parts, w: &[u8]) -> Scanned
     ensures { result ≡ from_end place parts w.now }
 {
     let n = run_len(Class::Blank, w);
+    let end = further(place, n);
     if n < w.len() {
-        return Err(further(place, n));
+        return Err(end);
     }
-    Ok(parts)
+    Ok((parts, end))
 }
