@@ -41,10 +41,15 @@ pub fn register_of(word: &[u8]) -> Option<Word>
 // ---- the text
 
 // How many line feeds there are.
+// Not `filter` and `count`, which take twice the time: every byte is one branch there.
 fn feeds(s: &[u8]) -> usize
     ensures { result ≡ feeds_in s.now }
 {
-    s.iter().filter(|b| **b == LINE_FEED).count()
+    let mut n = 0;
+    for b in s {
+        n += usize::from(*b == LINE_FEED);
+    }
+    n
 }
 
 // A line's number and its standard line.

@@ -145,9 +145,22 @@ fn try_line(out: &mut impl Write, line: &[u8]) {
 // How many lines there are.
 fn try_lines(out: &mut impl Write, s: &[u8]) -> u64 {
     let mut count = 0u64;
-    for line in s.split_inclusive(|b| *b == b'\n') {
-        try_line(out, line.strip_suffix(b"\n").unwrap_or(line));
-        // `+= 1` was tried, and that it fits did not prove: in a generic function no invariant can name the turns left.
+    // Where the line begins. Not `split_inclusive`, by which empty lines take twice the time.
+    let mut start = 0;
+    for (k, b) in s.iter().enumerate() {
+        if *b == b'\n' {
+            // An empty line is no entry.
+            if start < k {
+                try_line(out, &s[start..k]);
+            }
+            start = k + 1;
+            // `+= 1` was tried, and that it fits did not prove: in a generic function no invariant can name the turns left.
+            count = count.wrapping_add(1);
+        }
+    }
+    // What the last line feed ends is not followed by a line more.
+    if start < s.len() {
+        try_line(out, &s[start..]);
         count = count.wrapping_add(1);
     }
     count

@@ -1,42 +1,39 @@
 // Lines, tokens and numbers of the data.
-ghost use Rattle.std.specs.Prelude.{length};
+ghost use Rattle.std.specs.Prelude.{◌-◌, length};
 ghost use Rattle.std.specs.Iterator.{at_most};
 
-// The parts of a text that a byte ends, and what stands behind the last of these, if anything does: std's `split` would
-// give an empty part there too.
+// The parts of a text that a byte ends, and what stands behind the last of these, if anything does: std's `split`
+// would give an empty part there too.
+// The text and a place in it: with the text that is left, empty lines take half as much time again.
 #[derive(Clone, Copy)]
 pub(crate) struct Parts<'a> {
-    left: &'a [u8],
+    text: &'a [u8],
+    at: usize,
     end: u8,
 }
 
 impl<'a> Iterator for Parts<'a> {
     type Item = &'a [u8];
 
-    ghost remaining = { λ s. at_most (length s.left.now) };
+    ghost remaining = { λ s. at_most (length s.text.now - s.at) };
 
     fn next(&mut self) -> Option<&'a [u8]> {
-        let left = self.left;
+        let text = self.text;
         let end = self.end;
-        if left.is_empty() {
+        if text.len() <= self.at {
             return None;
         }
-        match left.iter().position(|b| *b == end) {
-            Some(n) => {
-                self.left = &left[n + 1..];
-                Some(&left[..n])
-            }
-            None => {
-                self.left = &[];
-                Some(left)
-            }
-        }
+        let left = &text[self.at..];
+        let n = left.iter().position(|b| *b == end).unwrap_or(left.len());
+        self.at += n + 1;
+        Some(&left[..n])
     }
 }
 
 pub(crate) fn lines(s: &[u8]) -> Parts<'_> {
     Parts {
-        left: s,
+        text: s,
+        at: 0,
         end: b'\n',
     }
 }
@@ -44,7 +41,8 @@ pub(crate) fn lines(s: &[u8]) -> Parts<'_> {
 // What stands behind a line's letter.
 pub(crate) fn tokens(line: &[u8]) -> Parts<'_> {
     Parts {
-        left: line.get(2..).unwrap_or(&[]),
+        text: line,
+        at: 2,
         end: b' ',
     }
 }

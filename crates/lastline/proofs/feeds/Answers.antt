@@ -1,17 +1,13 @@
-use Rattle.std.proofs.Common.{◌≡◌, ◌+◌, ◌∙◌, ℕ, List, [], ◌∷◌, refl, ap, rules, ◌==◌}
-use Rattle.std.specs.List.{count_by}
-use Rattle.std.proofs.lemmas.List.Sums.{sum_by-cons}
-use Rattle.signs.specs.Bytes.{line_feed}
-use Rattle.lastline.specs.Steps.{feed_in, feeds_in}
+use Rattle.std.proofs.Common.{rules, ◌≡◌}
+use Rattle.std.specs.List.{slice_index}
+use Rattle.lastline.specs.Steps.{feed_in}
+use Rattle.lastline.specs.TextLaws.{feeds_next, feeds_end}
 use Rattle.lastline.proofs.feeds.Goals as goal
 
--- the line feeds, in std's words
-counted : (s : List ℕ) → count_by (λ b. b == line_feed) s ≡ feeds_in s
-unfolding feeds_in
-counted [] = refl
-counted (b ∷ s) = sum_by-cons feed_in b s ∙ ap (λ (n : ℕ). feed_in b + n) (counted s)
+pub loop-b-preserved : goal.loop-b-preserved
+loop-b-preserved c =
+    let e : c.from-n.result ≡ feed_in (slice_index c.args.s.now c.loop-b.b-index) = search rules in
+    (rw e (feeds_next _ _ _ _ c.loop-b-test.true c.loop-b.invariant.0), search rules)
 
 pub returns : goal.returns
-returns c =
-    let e : c.count.result ≡ count_by (λ b. b == line_feed) c.args.s.now = search rules in
-    e ∙ counted c.args.s.now
+returns c = feeds_end _ _ _ _ c.loop-b-test.false c.loop-b.invariant.0
