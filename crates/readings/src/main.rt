@@ -154,7 +154,8 @@ fn try_lines(out: &mut impl Write, s: &[u8]) -> u64 {
                 try_line(out, &s[start..k]);
             }
             start = k + 1;
-            // `+= 1` was tried, and that it fits did not prove: in a generic function no invariant can name the turns left.
+            // `+= 1` was tried, and that it fits did not prove: in a generic function no invariant can name the
+            // turns left.
             count = count.wrapping_add(1);
         }
     }
